@@ -1,0 +1,123 @@
+-- Document 01, "Thirteen ways to say no": what both services answer, and what the lent buffer holds afterwards.
+use mathlib.Core.Bool.{Bool, true, false, _&&_}
+use mathlib.Core.List.{List, [], _∷_, _++_, map}
+use mathlib.Core.Option.{Option, none, some}
+use Prim.Native.Nat.{ℕ, suc, _*_}
+use lib.Dec.{leb}
+use lib.ListN.{length, drop, getD}
+use Rattle.grammar.specs.Bytes.{Bytes}
+use Rattle.grammar.specs.Token.{Token}
+use Rattle.grammar.specs.Outcome.{Outcome, refused, passed, andThen, placed}
+use Rattle.grammar.specs.Scan.{Placed, scan}
+use Rattle.grammar.specs.Nesting.{nesting}
+use Rattle.grammar.specs.Declaration.{start as startTable}
+use Rattle.grammar.specs.Tree.{Tree, flat}
+use Rattle.grammar.specs.Blocks.{checkBlocks, spans, firstWithout, treeOf}
+use Rattle.grammar.specs.Nodes.{count, words, wordsPerNode}
+use Rattle.grammar.specs.Canonical.{canonical, canonicalText}
+
+-- A text that can be read: its tokens and its tree.
+pub record Reading : Type 0 where
+  pub tokens : List Placed
+  pub tree : Tree
+
+unfoldable pub tokensOf : List Placed → List Token
+tokensOf [] = []
+tokensOf (p ∷ ps) = p .token ∷ tokensOf ps
+
+unfoldable pub startsOf : List Placed → List ℕ
+startsOf [] = []
+startsOf (p ∷ ps) = p .start ∷ startsOf ps
+
+-- The offset of token number `i`; behind the last token stands the end of the text.
+unfoldable pub offsetOf : Bytes → List Placed → ℕ → ℕ
+offsetOf text ps i = getD (startsOf ps ++ length text ∷ []) i 0
+
+-- "0, the `(`, or the `in`"
+unfoldable pub spanOffset : Bytes → List Placed → Option ℕ → ℕ
+spanOffset text ps none = 0
+spanOffset text ps (some i) = offsetOf text ps i
+
+-- Check 11 and the tree.
+unfoldable pub found : List Placed → Option Tree → Outcome Reading
+found ps none = refused 11 0
+found ps (some t) = passed (record { tokens = ps; tree = t })
+
+unfoldable pub readSpans : Bytes → List Placed → Option (Option ℕ) → Outcome Reading
+readSpans text ps (some o) = refused 11 (spanOffset text ps o)
+readSpans text ps none = found ps (treeOf startTable (tokensOf ps))
+
+-- Checks 6 to 11.
+unfoldable pub readTokens : Bytes → List Placed → Outcome Reading
+readTokens text ps =
+    andThen (placed (offsetOf text ps) (nesting [] 0 (tokensOf ps))) (λ u.
+    andThen (placed (offsetOf text ps) (checkBlocks (suc (length ps)) startTable 0 (tokensOf ps))) (λ v.
+    readSpans text ps (firstWithout (spans (suc (length ps)) startTable none 0 (tokensOf ps)))))
+
+-- "16,384 bytes, 1,024 tokens .. pass; one more is refused."
+abbrev pub longestText : ℕ
+longestText = 16384
+
+abbrev pub mostTokens : ℕ
+mostTokens = 1024
+
+-- "Order: 1; 2 to 5 ..; 6 and 7 ..; then blocks ..; then 11 ..": checks 1 to 11. Places are byte offsets.
+unfoldable pub readText : Bytes → Outcome Reading
+readText text =
+    elim (leb (length text) longestText) [
+      true ↦ andThen (scan mostTokens 0 text) (readTokens text)
+    | false ↦ refused 1 longestText ]
+
+-- "The answer is (number, place, count). Read: 0, 0, nodes or bytes written. Refused: count 0"
+pub record Answer : Type 0 where
+  pub number : ℕ
+  pub offset : ℕ
+  pub count : ℕ
+
+unfoldable pub rejection : ℕ → ℕ → Answer
+rejection n p = record { number = n; offset = p; count = 0 }
+
+unfoldable pub success : ℕ → Answer
+success c = record { number = 0; offset = 0; count = c }
+
+-- What a service leaves: its answer and the contents of the lent buffer.
+pub record Result : Type 0 where
+  pub answer : Answer
+  pub buffer : List ℕ
+
+-- "Words beyond the nodes keep their contents." "Bytes of the buffer past the tidy text keep their contents."
+unfoldable pub over : List ℕ → List ℕ → List ℕ
+over w b = w ++ drop (length w) b
+
+unfoldable pub readingWords : Bytes → Reading → List ℕ
+readingWords text r = words (offsetOf text (r .tokens)) (r .tree) 0 0
+
+-- "12: reading: node table too short: 0"
+unfoldable pub readInto : Bytes → List ℕ → Outcome Reading → Result
+readInto text buffer (refused n p) = record { answer = rejection n p; buffer = buffer }
+readInto text buffer (passed r) =
+    elim (leb (wordsPerNode * count (r .tree)) (length buffer)) [
+      true ↦ record { answer = success (count (r .tree)); buffer = over (readingWords text r) buffer }
+    | false ↦ record { answer = rejection 12 0; buffer = buffer } ]
+
+-- Reading: the text, the lent node table, and what is left in it.
+unfoldable pub read : Bytes → List ℕ → Result
+read text buffer = readInto text buffer (readText text)
+
+unfoldable pub readingText : Reading → Bytes
+readingText r = canonicalText (canonical startTable (r .tree))
+
+-- "13: tidying: tidy text over the buffer or 16,384: 0"
+unfoldable pub writeInto : List ℕ → Bytes → Result
+writeInto buffer text =
+    elim (leb (length text) (length buffer) && leb (length text) longestText) [
+      true ↦ record { answer = success (length text); buffer = over text buffer }
+    | false ↦ record { answer = rejection 13 0; buffer = buffer } ]
+
+unfoldable pub canonicalizeInto : List ℕ → Outcome Reading → Result
+canonicalizeInto buffer (refused n p) = record { answer = rejection n p; buffer = buffer }
+canonicalizeInto buffer (passed r) = writeInto buffer (readingText r)
+
+-- Tidying (here: canonicalizing): the text, the lent buffer, and what is left in it.
+unfoldable pub canonicalize : Bytes → List ℕ → Result
+canonicalize text buffer = canonicalizeInto buffer (readText text)

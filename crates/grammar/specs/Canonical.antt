@@ -1,0 +1,98 @@
+-- Document 01, "Tidy text" (here: canonical text): brackets and zeros that mean nothing are gone, one space between tokens.
+use mathlib.Core.Path.{_≡_}
+use mathlib.Core.Bool.{Bool, true, false, _&&_, not}
+use mathlib.Core.List.{List, [], _∷_, _++_, map}
+use mathlib.Core.Option.{Option, none, some}
+use Prim.Native.Nat.{ℕ}
+use lib.Dec.{eqb}
+use Rattle.grammar.specs.Bytes.{Bytes, bytes}
+use Rattle.grammar.specs.Token.{
+  Token, symbol, number, quoted, opening, closing, semicolon, keywordLet, keywordIn, keywordEnd, spelling, isSymbol}
+use Rattle.grammar.specs.Operator.{Role, Table, role, inForce}
+use Rattle.grammar.specs.Declaration.{Declaration, declares, clears, declareAll}
+use Rattle.grammar.specs.SpanTree.{Side, onLeft, onRight, admits, fixity, root}
+use Rattle.grammar.specs.Tree.{Tree, nothing, leaf, bracket, block, node, flat, spanTree}
+
+-- "Numbers lose leading zeros (0 remains `0`)".
+unfoldable pub withoutZeros : Bytes → Bytes
+withoutZeros [] = []
+withoutZeros (b ∷ d) = elim (eqb b 48) [ true ↦ withoutZeros d | false ↦ b ∷ d ]
+
+unfoldable pub orZero : Bytes → Bytes
+orZero [] = bytes "0"
+orZero (b ∷ d) = b ∷ d
+
+unfoldable pub strip : Bytes → Bytes
+strip d = orZero (withoutZeros d)
+
+-- ".. in declarations too."
+unfoldable pub stripDeclaration : Declaration → Declaration
+stripDeclaration (declares f a d m) = declares f a (strip d) m
+stripDeclaration (clears m) = clears m
+
+-- "A name is bare if it is one word or sign, no structure word and no mark in force there; else quoted."
+unfoldable pub writtenName : Table → Bytes → Token
+writtenName T c = elim (isSymbol c && not (inForce T c)) [ true ↦ symbol c | false ↦ quoted c ]
+
+unfoldable pub writtenToken : Table → Token → Token
+writtenToken T (symbol w) = writtenName T w
+writtenToken T (number d) = number (strip d)
+writtenToken T (quoted c) = writtenName T c
+writtenToken T opening = opening
+writtenToken T closing = closing
+writtenToken T semicolon = semicolon
+writtenToken T keywordLet = keywordLet
+writtenToken T keywordIn = keywordIn
+writtenToken T keywordEnd = keywordEnd
+
+-- "bracket exactly those operands that their place doesn't admit": the operand `t` at the side `s` of an operator in the role.
+unfoldable pub fitted : Table → Side → Option Role → Tree → Tree
+fitted T s none t = t
+fitted T s (some r) t = elim (admits s r (root T (spanTree t))) [ true ↦ t | false ↦ bracket t ]
+
+-- The tree of the canonical text: "Take out every bracket, then bracket exactly those operands that their place doesn't admit."
+unfoldable pub canonical : Table → Tree → Tree
+canonical T nothing = nothing
+canonical T (leaf t) = leaf (writtenToken T t)
+canonical T (bracket t) = canonical T t
+canonical T (block ds t) = block (map stripDeclaration ds) (canonical (declareAll T ds) t)
+canonical T (node l m r) =
+    node
+      (fitted T onLeft (role T m (fixity (spanTree l) (spanTree r))) (canonical T l))
+      m
+      (fitted T onRight (role T m (fixity (spanTree l) (spanTree r))) (canonical T r))
+
+-- "Write the tokens with one space between."
+unfoldable pub spaced : List Token → Bytes
+spaced [] = []
+spaced (t ∷ ts) = 32 ∷ spelling t ++ spaced ts
+
+unfoldable pub joinTokens : List Token → Bytes
+joinTokens [] = []
+joinTokens (t ∷ ts) = spelling t ++ spaced ts
+
+unfoldable pub canonicalText : Tree → Bytes
+canonicalText t = joinTokens (flat t)
+
+-- What a bracket pair holds; any other tree itself.
+unfoldable pub unwrapped : Tree → Tree
+unwrapped nothing = nothing
+unwrapped (leaf t) = leaf t
+unwrapped (bracket t) = t
+unwrapped (block ds t) = block ds t
+unwrapped (node l m r) = node l m r
+
+unfoldable pub refuses : Side → Option Role → Option Role → Bool
+refuses s none o = false
+refuses s (some r) o = not (admits s r o)
+
+-- No bracket of a tree is spare: each is an operand that its place would not admit without it. The test says that of the place
+-- where the tree stands.
+abbrev pub NoSpare : Table → Bool → Tree → Type 0
+NoSpare T needed nothing = Unit {0}
+NoSpare T needed (leaf t) = Unit {0}
+NoSpare T needed (bracket t) = (needed ≡ true) × NoSpare T false t
+NoSpare T needed (block ds t) = NoSpare (declareAll T ds) false t
+NoSpare T needed (node l m r) =
+    NoSpare T (refuses onLeft (role T m (fixity (spanTree l) (spanTree r))) (root T (spanTree (unwrapped l)))) l
+    × NoSpare T (refuses onRight (role T m (fixity (spanTree l) (spanTree r))) (root T (spanTree (unwrapped r)))) r

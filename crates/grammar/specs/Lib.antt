@@ -1,0 +1,17 @@
+pub mod Bytes
+pub mod Token
+pub mod Outcome
+pub mod Scan
+pub mod Operator
+pub mod Declaration
+pub mod Nesting
+pub mod Span
+pub mod SpanTree
+pub mod Tree
+pub mod Search
+pub mod Blocks
+pub mod Nodes
+pub mod Abstract
+pub mod Canonical
+pub mod Answer
+pub mod Listing

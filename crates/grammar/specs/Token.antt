@@ -1,0 +1,147 @@
+-- Document 01, "Tokens": which bytes are what, and what a token is.
+use mathlib.Core.Bool.{Bool, true, false, _&&_, _||_, not}
+use mathlib.Core.List.{List, [], _∷_, _++_}
+use Prim.Native.Nat.{ℕ}
+use lib.Dec.{leb, eqb}
+use lib.ListN.{length}
+use Rattle.grammar.specs.Bytes.{Bytes, bytes, same, member, every}
+
+-- The classes of bytes.
+abbrev pub blank : ℕ
+blank = 0
+
+abbrev pub letter : ℕ
+letter = 1
+
+abbrev pub digit : ℕ
+digit = 2
+
+abbrev pub underscore : ℕ
+underscore = 3
+
+abbrev pub sign : ℕ
+sign = 4
+
+abbrev pub quote : ℕ
+quote = 5
+
+abbrev pub opens : ℕ
+opens = 6
+
+abbrev pub closes : ℕ
+closes = 7
+
+abbrev pub separates : ℕ
+separates = 8
+
+abbrev pub other : ℕ
+other = 9
+
+abbrev pub within : ℕ → ℕ → ℕ → Bool
+within low high b = leb low b && leb b high
+
+-- "Blank bytes are 9, 10, 13 and 32".
+abbrev pub isBlank : ℕ → Bool
+isBlank b = within 9 10 b || eqb b 13 || eqb b 32
+
+-- "a letter (`A` to `Z`, `a` to `z`)"
+abbrev pub isLetter : ℕ → Bool
+isLetter b = within 65 90 b || within 97 122 b
+
+-- "`+ - * / < > = ! & | ^ ~ : ? @ # $ %`"
+abbrev pub signs : Bytes
+signs = bytes "+-*/<>=!&|^~:?@#$%"
+
+-- The class of a byte. "Solo: `(`, `)`, `;`."
+unfoldable pub class : ℕ → ℕ
+class b =
+    elim (isBlank b) [ true ↦ blank | false ↦
+    elim (isLetter b) [ true ↦ letter | false ↦
+    elim (within 48 57 b) [ true ↦ digit | false ↦
+    elim (eqb b 95) [ true ↦ underscore | false ↦
+    elim (member b signs) [ true ↦ sign | false ↦
+    elim (eqb b 39) [ true ↦ quote | false ↦
+    elim (eqb b 40) [ true ↦ opens | false ↦
+    elim (eqb b 41) [ true ↦ closes | false ↦
+    elim (eqb b 59) [ true ↦ separates | false ↦ other ] ] ] ] ] ] ] ] ]
+
+-- "Word: a letter, then letters, digits or `_`."
+unfoldable pub beginsWord : ℕ → Bool
+beginsWord b = eqb (class b) letter
+
+unfoldable pub inWord : ℕ → Bool
+inWord b = eqb (class b) letter || eqb (class b) digit || eqb (class b) underscore
+
+-- "Sign: a run of .." and "Number: a run of digits."
+unfoldable pub inSign : ℕ → Bool
+inSign b = eqb (class b) sign
+
+unfoldable pub inNumber : ℕ → Bool
+inNumber b = eqb (class b) digit
+
+-- "bytes from 32 to 126 other than `'`"
+unfoldable pub inQuotes : ℕ → Bool
+inQuotes b = within 32 126 b && not (eqb b 39)
+
+-- A token. `symbol`: a word or sign that is no structure word; `quoted`: a name's characters without the quotes.
+pub data Token : Type 0 where
+  symbol : Bytes → Token
+  number : Bytes → Token
+  quoted : Bytes → Token
+  opening : Token
+  closing : Token
+  semicolon : Token
+  keywordLet : Token
+  keywordIn : Token
+  keywordEnd : Token
+
+-- The bytes of a token as they stand in a text.
+unfoldable pub spelling : Token → Bytes
+spelling (symbol w) = w
+spelling (number d) = d
+spelling (quoted c) = 39 ∷ c ++ 39 ∷ []
+spelling opening = bytes "("
+spelling closing = bytes ")"
+spelling semicolon = bytes ";"
+spelling keywordLet = bytes "let"
+spelling keywordIn = bytes "in"
+spelling keywordEnd = bytes "end"
+
+-- "`let`, `in` and `end` are structure words." (here: keywords)
+unfoldable pub isKeyword : Bytes → Bool
+isKeyword w = same w (bytes "let") || same w (bytes "in") || same w (bytes "end")
+
+unfoldable pub isWord : Bytes → Bool
+isWord [] = false
+isWord (b ∷ s) = beginsWord b && every inWord s
+
+unfoldable pub isSign : Bytes → Bool
+isSign [] = false
+isSign (b ∷ s) = inSign b && every inSign s
+
+unfoldable pub isNumber : Bytes → Bool
+isNumber [] = false
+isNumber (b ∷ s) = inNumber b && every inNumber s
+
+-- "A word or sign has at most 63 bytes, a number at most 9 digits." "1 to 63 bytes"
+abbrev pub longestName : ℕ
+longestName = 63
+
+abbrev pub longestNumber : ℕ
+longestNumber = 9
+
+-- A word or sign, no structure word, short enough: what can stand bare as a name or operator.
+unfoldable pub isSymbol : Bytes → Bool
+isSymbol w = (isWord w || isSign w) && not (isKeyword w) && leb (length w) longestName
+
+-- What a token is.
+unfoldable pub isToken : Token → Bool
+isToken (symbol w) = isSymbol w
+isToken (number d) = isNumber d && leb (length d) longestNumber
+isToken (quoted c) = leb 1 (length c) && leb (length c) longestName && every inQuotes c
+isToken opening = true
+isToken closing = true
+isToken semicolon = true
+isToken keywordLet = true
+isToken keywordIn = true
+isToken keywordEnd = true

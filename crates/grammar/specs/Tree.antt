@@ -1,0 +1,55 @@
+-- Document 01, "Trees": what is a tree of a text. Nothing here says how one is found.
+use mathlib.Core.Path.{_≡_}
+use mathlib.Core.Bool.{Bool, true, false}
+use mathlib.Core.List.{List, [], _∷_, _++_}
+use Rattle.grammar.specs.Bytes.{Bytes}
+use Rattle.grammar.specs.Token.{Token, symbol, opening, closing, keywordLet, keywordIn, keywordEnd}
+use Rattle.grammar.specs.Operator.{Table, Conditions}
+use Rattle.grammar.specs.Declaration.{Declaration, declareAll, allTokens, areDeclarations}
+use Rattle.grammar.specs.Span.{single, pair, scope}
+use Rattle.grammar.specs.SpanTree.{SpanTree, missing, operand, apply, present, Admitted}
+
+-- A tree of a text: bracket pairs and blocks have the tree of their inside.
+pub data Tree : Type 0 where
+  nothing : Tree
+  leaf : Token → Tree
+  bracket : Tree → Tree
+  block : List Declaration → Tree → Tree
+  node : Tree → Bytes → Tree → Tree
+
+-- The tokens of a tree, in order.
+unfoldable pub flat : Tree → List Token
+flat nothing = []
+flat (leaf t) = t ∷ []
+flat (bracket t) = opening ∷ flat t ++ closing ∷ []
+flat (block ds t) = keywordLet ∷ allTokens ds ++ keywordIn ∷ flat t ++ keywordEnd ∷ []
+flat (node l m r) = flat l ++ symbol m ∷ flat r
+
+-- The tree of the outermost span of a tree.
+unfoldable pub spanTree : Tree → SpanTree
+spanTree nothing = missing
+spanTree (leaf t) = operand (single t)
+spanTree (bracket t) = operand (pair (flat t))
+spanTree (block ds t) = operand (scope (allTokens ds) (flat t))
+spanTree (node l m r) = apply (spanTree l) m (spanTree r)
+
+-- A tree of a span, inner bracket pairs and blocks left aside.
+abbrev pub SpanOk : Table → Tree → Type 0
+SpanOk T t = Admitted T (spanTree t) × (present (spanTree t) ≡ true)
+
+-- "A tree of a text is a tree of each of its spans, an inner one hung under its bracket or block node." "The body is read under
+-- the outer table with these changes; after `end` the outer table is back."
+abbrev pub InnerOk : Table → Tree → Type 0
+InnerOk T nothing = Unit {0}
+InnerOk T (leaf t) = Unit {0}
+InnerOk T (bracket t) = SpanOk T t × InnerOk T t
+InnerOk T (block ds t) =
+    (areDeclarations ds ≡ true) × Conditions (declareAll T ds) × SpanOk (declareAll T ds) t × InnerOk (declareAll T ds) t
+InnerOk T (node l m r) = InnerOk T l × InnerOk T r
+
+-- `t` is a tree of the tokens `ts` under the operators `T`. "Two trees of a text are the same if at every node they have the
+-- same kind over the same tokens": two trees of the same tokens are the same where they are equal.
+pub record IsTree (T : Table) (ts : List Token) (t : Tree) : Type 0 where
+  pub tokens : flat t ≡ ts
+  pub outer : SpanOk T t
+  pub inner : InnerOk T t
