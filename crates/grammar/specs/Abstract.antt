@@ -4,7 +4,17 @@ use mathlib.Core.List.{List, map}
 use Prim.Native.Nat.{ℕ}
 use Rattle.grammar.specs.Bytes.{Bytes}
 use Rattle.grammar.specs.Token.{
-  Token, symbol, number, quoted, opening, closing, semicolon, keywordLet, keywordIn, keywordEnd}
+  Token,
+  symbol,
+  number,
+  quoted,
+  opening,
+  closing,
+  semicolon,
+  keywordLet,
+  keywordIn,
+  keywordEnd,
+}
 use Rattle.grammar.specs.Operator.{Fixity, Associativity}
 use Rattle.grammar.specs.Declaration.{Declaration, declares, clears, value}
 use Rattle.grammar.specs.Tree.{Tree, nothing, leaf, bracket, block, node}

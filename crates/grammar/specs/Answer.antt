@@ -65,8 +65,9 @@ mostTokens = 1024
 unfoldable pub readText : Bytes → Outcome Reading
 readText text =
     elim (leb (length text) longestText) [
-      true ↦ andThen (scan mostTokens 0 text) (readTokens text)
-    | false ↦ refused 1 longestText ]
+      | true ↦ andThen (scan mostTokens 0 text) (readTokens text)
+      | false ↦ refused 1 longestText
+    ]
 
 -- "The answer is (number, place, count). Read: 0, 0, nodes or bytes written. Refused: count 0"
 pub record Answer : Type 0 where
@@ -97,8 +98,9 @@ unfoldable pub readInto : Bytes → List ℕ → Outcome Reading → Result
 readInto text buffer (refused n p) = record { answer = rejection n p; buffer = buffer }
 readInto text buffer (passed r) =
     elim (leb (wordsPerNode * count (r .tree)) (length buffer)) [
-      true ↦ record { answer = success (count (r .tree)); buffer = over (readingWords text r) buffer }
-    | false ↦ record { answer = rejection 12 0; buffer = buffer } ]
+      | true ↦ record { answer = success (count (r .tree)); buffer = over (readingWords text r) buffer }
+      | false ↦ record { answer = rejection 12 0; buffer = buffer }
+    ]
 
 -- Reading: the text, the lent node table, and what is left in it.
 unfoldable pub read : Bytes → List ℕ → Result
@@ -111,8 +113,9 @@ readingText r = canonicalText (canonical startTable (r .tree))
 unfoldable pub writeInto : List ℕ → Bytes → Result
 writeInto buffer text =
     elim (leb (length text) (length buffer) && leb (length text) longestText) [
-      true ↦ record { answer = success (length text); buffer = over text buffer }
-    | false ↦ record { answer = rejection 13 0; buffer = buffer } ]
+      | true ↦ record { answer = success (length text); buffer = over text buffer }
+      | false ↦ record { answer = rejection 13 0; buffer = buffer }
+    ]
 
 unfoldable pub canonicalizeInto : List ℕ → Outcome Reading → Result
 canonicalizeInto buffer (refused n p) = record { answer = rejection n p; buffer = buffer }

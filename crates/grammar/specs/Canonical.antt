@@ -7,7 +7,19 @@ use Prim.Native.Nat.{ℕ}
 use lib.Dec.{eqb}
 use Rattle.grammar.specs.Bytes.{Bytes, bytes}
 use Rattle.grammar.specs.Token.{
-  Token, symbol, number, quoted, opening, closing, semicolon, keywordLet, keywordIn, keywordEnd, spelling, isSymbol}
+  Token,
+  symbol,
+  number,
+  quoted,
+  opening,
+  closing,
+  semicolon,
+  keywordLet,
+  keywordIn,
+  keywordEnd,
+  spelling,
+  isSymbol,
+}
 use Rattle.grammar.specs.Operator.{Role, Table, role, inForce}
 use Rattle.grammar.specs.Declaration.{Declaration, declares, clears, declareAll}
 use Rattle.grammar.specs.SpanTree.{Side, onLeft, onRight, admits, fixity, root}
@@ -58,9 +70,9 @@ canonical T (bracket t) = canonical T t
 canonical T (block ds t) = block (map stripDeclaration ds) (canonical (declareAll T ds) t)
 canonical T (node l m r) =
     node
-      (fitted T onLeft (role T m (fixity (spanTree l) (spanTree r))) (canonical T l))
-      m
-      (fitted T onRight (role T m (fixity (spanTree l) (spanTree r))) (canonical T r))
+    (fitted T onLeft (role T m (fixity (spanTree l) (spanTree r))) (canonical T l))
+    m
+    (fitted T onRight (role T m (fixity (spanTree l) (spanTree r))) (canonical T r))
 
 -- "Write the tokens with one space between."
 unfoldable pub spaced : List Token → Bytes

@@ -7,9 +7,33 @@ use lib.Dec.{leb}
 use lib.ListN.{length}
 use Rattle.grammar.specs.Bytes.{Bytes, bytes, same}
 use Rattle.grammar.specs.Token.{
-  Token, symbol, number, quoted, opening, closing, semicolon, keywordLet, keywordIn, keywordEnd}
+  Token,
+  symbol,
+  number,
+  quoted,
+  opening,
+  closing,
+  semicolon,
+  keywordLet,
+  keywordIn,
+  keywordEnd,
+}
 use Rattle.grammar.specs.Operator.{
-  Fixity, Prefix, Infix, Postfix, Associativity, left, right, non, Role, allowed, Table, declareRole, removeRoles, lawfulTable}
+  Fixity,
+  Prefix,
+  Infix,
+  Postfix,
+  Associativity,
+  left,
+  right,
+  non,
+  Role,
+  allowed,
+  Table,
+  declareRole,
+  removeRoles,
+  lawfulTable,
+}
 use Rattle.grammar.specs.Outcome.{Outcome, refused, passed}
 
 -- "`infix SIDE LEVEL MARK ;`, `prefix SIDE LEVEL MARK ;`, `postfix SIDE LEVEL MARK ;`, `plain MARK ;`"
@@ -133,15 +157,27 @@ isSemicolon keywordEnd = false
 
 unfoldable pub fixityNamed : Bytes → Option Fixity
 fixityNamed w =
-    elim (same w (fixityWord Infix)) [ true ↦ some Infix | false ↦
-    elim (same w (fixityWord Prefix)) [ true ↦ some Prefix | false ↦
-    elim (same w (fixityWord Postfix)) [ true ↦ some Postfix | false ↦ none ] ] ]
+    elim (same w (fixityWord Infix)) [
+      | true ↦ some Infix
+      | false ↦
+          elim (same w (fixityWord Prefix)) [
+            | true ↦ some Prefix
+            | false ↦
+                elim (same w (fixityWord Postfix)) [ true ↦ some Postfix | false ↦ none ]
+          ]
+    ]
 
 unfoldable pub associativityNamed : Bytes → Option Associativity
 associativityNamed w =
-    elim (same w (associativityWord left)) [ true ↦ some left | false ↦
-    elim (same w (associativityWord right)) [ true ↦ some right | false ↦
-    elim (same w (associativityWord non)) [ true ↦ some non | false ↦ none ] ] ]
+    elim (same w (associativityWord left)) [
+      | true ↦ some left
+      | false ↦
+          elim (same w (associativityWord right)) [
+            | true ↦ some right
+            | false ↦
+                elim (same w (associativityWord non)) [ true ↦ some non | false ↦ none ]
+          ]
+    ]
 
 -- The closing `;`, token number `k` of the declaration.
 unfoldable pub closed : ℕ → Declaration → List Token → Parsed
@@ -159,8 +195,11 @@ precedencePart f a (t ∷ ts) = elim (precedenceOf t) [ none ↦ unfit 2 | some 
 
 unfoldable pub associativityFor : Fixity → Token → Option Associativity
 associativityFor f t =
-    elim (symbolOf t) [ none ↦ none | some w ↦
-    elim (associativityNamed w) [ none ↦ none | some a ↦ elim (allowed f a) [ true ↦ some a | false ↦ none ] ] ]
+    elim (symbolOf t) [
+      | none ↦ none
+      | some w ↦
+          elim (associativityNamed w) [ none ↦ none | some a ↦ elim (allowed f a) [ true ↦ some a | false ↦ none ] ]
+    ]
 
 unfoldable pub associativityPart : Fixity → List Token → Parsed
 associativityPart f [] = unfit 1
@@ -168,8 +207,11 @@ associativityPart f (t ∷ ts) = elim (associativityFor f t) [ none ↦ unfit 1 
 
 unfoldable pub firstWord : Bytes → List Token → Parsed
 firstWord w ts =
-    elim (same w plainWord) [ true ↦ operatorPart 1 clears ts | false ↦
-    elim (fixityNamed w) [ none ↦ unfit 0 | some f ↦ associativityPart f ts ] ]
+    elim (same w plainWord) [
+      | true ↦ operatorPart 1 clears ts
+      | false ↦
+          elim (fixityNamed w) [ none ↦ unfit 0 | some f ↦ associativityPart f ts ]
+    ]
 
 unfoldable pub declaration : List Token → Parsed
 declaration [] = unfit 0
@@ -196,11 +238,13 @@ enter zero T i (t ∷ ts) = refused 8 i
 enter (suc k) T i [] = checkedAt i T
 enter (suc k) T i (t ∷ ts) =
     elim (declaration (t ∷ ts)) [
-      unfit n ↦ refused 8 (i + n)
-    | parsed d rest ↦
-        elim (leb (length (declare T d)) mostOperators) [
-          true ↦ enter k (declare T d) (i + length (declarationTokens d)) rest
-        | false ↦ refused 9 (i + operatorPlace d) ] ]
+      | unfit n ↦ refused 8 (i + n)
+      | parsed d rest ↦
+          elim (leb (length (declare T d)) mostOperators) [
+            | true ↦ enter k (declare T d) (i + length (declarationTokens d)) rest
+            | false ↦ refused 9 (i + operatorPlace d)
+          ]
+    ]
 
 -- The declarations that the tokens of a declaration part spell, as far as they do.
 unfoldable pub declarationsOf : ℕ → List Token → List Declaration

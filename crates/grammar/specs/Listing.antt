@@ -40,8 +40,9 @@ refusalLine a = bytes "refused " ++ decimal (a .number) ++ bytes " at " ++ decim
 unfoldable pub canonicalLines : Result → Bytes
 canonicalLines r =
     elim (eqb (r .answer .number) 0) [
-      true ↦ bytes "tidy " ++ decimal (r .answer .count) ++ newline ++ take (r .answer .count) (r .buffer) ++ newline
-    | false ↦ refusalLine (r .answer) ]
+      | true ↦ bytes "tidy " ++ decimal (r .answer .count) ++ newline ++ take (r .answer .count) (r .buffer) ++ newline
+      | false ↦ refusalLine (r .answer)
+    ]
 
 unfoldable pub readingLines : Result → Bytes
 readingLines r = bytes "read " ++ decimal (r .answer .count) ++ newline ++ nodeLines (r .answer .count) 0 (r .buffer)

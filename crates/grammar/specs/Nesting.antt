@@ -5,7 +5,17 @@ use Prim.Native.Nat.{ℕ, suc}
 use lib.Dec.{ltb}
 use lib.ListN.{length}
 use Rattle.grammar.specs.Token.{
-  Token, symbol, number, quoted, opening, closing, semicolon, keywordLet, keywordIn, keywordEnd}
+  Token,
+  symbol,
+  number,
+  quoted,
+  opening,
+  closing,
+  semicolon,
+  keywordLet,
+  keywordIn,
+  keywordEnd,
+}
 use Rattle.grammar.specs.Outcome.{Outcome, refused, passed}
 
 -- What is open: a bracket pair, a block before its `in`, a block after it.
@@ -74,8 +84,9 @@ nesting [] i [] = passed tt
 nesting (o ∷ os) i [] = refused 6 i
 nesting os i (t ∷ ts) =
     elim (move os t) [
-      stays ↦ nesting os (suc i) ts
-    | broken ↦ refused 6 i
-    | enters o ↦ elim (ltb (length os) deepest) [ true ↦ nesting (o ∷ os) (suc i) ts | false ↦ refused 7 i ]
-    | becomes o ↦ nesting (o ∷ closeInnermost os) (suc i) ts
-    | leaves ↦ nesting (closeInnermost os) (suc i) ts ]
+      | stays ↦ nesting os (suc i) ts
+      | broken ↦ refused 6 i
+      | enters o ↦ elim (ltb (length os) deepest) [ true ↦ nesting (o ∷ os) (suc i) ts | false ↦ refused 7 i ]
+      | becomes o ↦ nesting (o ∷ closeInnermost os) (suc i) ts
+      | leaves ↦ nesting (closeInnermost os) (suc i) ts
+    ]

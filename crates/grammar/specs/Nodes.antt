@@ -5,7 +5,17 @@ use Prim.Native.Nat.{ℕ, suc, pred, _+_, _-_}
 use lib.ListN.{length}
 use Rattle.grammar.specs.Bytes.{Bytes}
 use Rattle.grammar.specs.Token.{
-  Token, symbol, number, quoted, opening, closing, semicolon, keywordLet, keywordIn, keywordEnd}
+  Token,
+  symbol,
+  number,
+  quoted,
+  opening,
+  closing,
+  semicolon,
+  keywordLet,
+  keywordIn,
+  keywordEnd,
+}
 use Rattle.grammar.specs.Operator.{Fixity, Prefix, Infix, Postfix}
 use Rattle.grammar.specs.Declaration.{Declaration, allTokens}
 use Rattle.grammar.specs.SpanTree.{present, fixity}
@@ -75,8 +85,9 @@ firstChild l r n = pred (n + elim (present (spanTree l)) [ true ↦ count l | fa
 unfoldable pub secondChild : Tree → Tree → ℕ → ℕ
 secondChild l r n =
     elim (present (spanTree l)) [
-      true ↦ elim (present (spanTree r)) [ true ↦ pred (n + count l + count r) | false ↦ 0 ]
-    | false ↦ 0 ]
+      | true ↦ elim (present (spanTree r)) [ true ↦ pred (n + count l + count r) | false ↦ 0 ]
+      | false ↦ 0
+    ]
 
 -- The words of the tree whose first token is number `i` and first node number `n`; `start` gives each token's offset.
 -- "Children come before parents, left before right, the root last".

@@ -90,8 +90,9 @@ unfoldable pub declareRole : Bytes → Fixity → Role → Table → Table
 declareRole m f r [] = record { name = m; roles = replaced f r (λ g. none) } ∷ []
 declareRole m f r (o ∷ T) =
     elim (same m (o .name)) [
-      true ↦ record { name = o .name; roles = replaced f r (o .roles) } ∷ T
-    | false ↦ o ∷ declareRole m f r T ]
+      | true ↦ record { name = o .name; roles = replaced f r (o .roles) } ∷ T
+      | false ↦ o ∷ declareRole m f r T
+    ]
 
 -- "`plain` removes all roles and does nothing to a word or sign that has none."
 unfoldable pub removeRoles : Bytes → Table → Table
@@ -106,12 +107,12 @@ pub record Lawful (r : Roles) : Type 0 where
   pub infixNon : (a : Role) → r Infix ≡ some a → a .associativity ≡ non → (f : Fixity) (b : Role) → r f ≡ some b → b .associativity ≡ non
   -- "3. infix left: prefix is non, postfix is left"
   pub infixLeft :
-    (a : Role) → r Infix ≡ some a → a .associativity ≡ left
-    → ((b : Role) → r Prefix ≡ some b → b .associativity ≡ non) × ((b : Role) → r Postfix ≡ some b → b .associativity ≡ left)
+      (a : Role) → r Infix ≡ some a → a .associativity ≡ left
+      → ((b : Role) → r Prefix ≡ some b → b .associativity ≡ non) × ((b : Role) → r Postfix ≡ some b → b .associativity ≡ left)
   -- "4. infix right: prefix is right, and there is no postfix role"
   pub infixRight :
-    (a : Role) → r Infix ≡ some a → a .associativity ≡ right
-    → ((b : Role) → r Prefix ≡ some b → b .associativity ≡ right) × (r Postfix ≡ none)
+      (a : Role) → r Infix ≡ some a → a .associativity ≡ right
+      → ((b : Role) → r Prefix ≡ some b → b .associativity ≡ right) × (r Postfix ≡ none)
 
 -- The four conditions, of every word or sign.
 abbrev pub Conditions : Table → Type 0

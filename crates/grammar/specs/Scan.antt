@@ -7,9 +7,34 @@ use lib.Dec.{leb, eqb}
 use lib.ListN.{length, take, drop, getD}
 use Rattle.grammar.specs.Bytes.{Bytes, bytes, same}
 use Rattle.grammar.specs.Token.{
-  class, blank, letter, digit, underscore, sign, quote, opens, closes, separates, other,
-  inWord, inSign, inNumber, inQuotes, Token, symbol, number, quoted, opening, closing, semicolon,
-  keywordLet, keywordIn, keywordEnd, longestName, longestNumber}
+  class,
+  blank,
+  letter,
+  digit,
+  underscore,
+  sign,
+  quote,
+  opens,
+  closes,
+  separates,
+  other,
+  inWord,
+  inSign,
+  inNumber,
+  inQuotes,
+  Token,
+  symbol,
+  number,
+  quoted,
+  opening,
+  closing,
+  semicolon,
+  keywordLet,
+  keywordIn,
+  keywordEnd,
+  longestName,
+  longestNumber,
+}
 use Rattle.grammar.specs.Outcome.{Outcome, refused, passed}
 
 pub record Placed : Type 0 where
@@ -32,9 +57,15 @@ pub data Front : Type 0 where
 
 unfoldable pub keywordOrSymbol : Bytes → Token
 keywordOrSymbol w =
-    elim (same w (bytes "let")) [ true ↦ keywordLet | false ↦
-    elim (same w (bytes "in")) [ true ↦ keywordIn | false ↦
-    elim (same w (bytes "end")) [ true ↦ keywordEnd | false ↦ symbol w ] ] ]
+    elim (same w (bytes "let")) [
+      | true ↦ keywordLet
+      | false ↦
+          elim (same w (bytes "in")) [
+            | true ↦ keywordIn
+            | false ↦
+                elim (same w (bytes "end")) [ true ↦ keywordEnd | false ↦ symbol w ]
+          ]
+    ]
 
 -- "4: word, sign or number too long"
 unfoldable pub atMost : ℕ → ℕ → Token → Front
@@ -49,13 +80,31 @@ quotedName s =
 -- The token that begins with the bytes `s`, whose first byte is of class `c`. "2: byte begins no token"
 unfoldable pub frontOf : ℕ → Bytes → Front
 frontOf c s =
-    elim (eqb c letter) [ true ↦ atMost longestName (run inWord s) (keywordOrSymbol (take (run inWord s) s)) | false ↦
-    elim (eqb c sign) [ true ↦ atMost longestName (run inSign s) (symbol (take (run inSign s) s)) | false ↦
-    elim (eqb c digit) [ true ↦ atMost longestNumber (run inNumber s) (number (take (run inNumber s) s)) | false ↦
-    elim (eqb c quote) [ true ↦ quotedName (drop 1 s) | false ↦
-    elim (eqb c opens) [ true ↦ taken opening 1 | false ↦
-    elim (eqb c closes) [ true ↦ taken closing 1 | false ↦
-    elim (eqb c separates) [ true ↦ taken semicolon 1 | false ↦ wrong 2 ] ] ] ] ] ] ]
+    elim (eqb c letter) [
+      | true ↦ atMost longestName (run inWord s) (keywordOrSymbol (take (run inWord s) s))
+      | false ↦
+          elim (eqb c sign) [
+            | true ↦ atMost longestName (run inSign s) (symbol (take (run inSign s) s))
+            | false ↦
+                elim (eqb c digit) [
+                  | true ↦ atMost longestNumber (run inNumber s) (number (take (run inNumber s) s))
+                  | false ↦
+                      elim (eqb c quote) [
+                        | true ↦ quotedName (drop 1 s)
+                        | false ↦
+                            elim (eqb c opens) [
+                              | true ↦ taken opening 1
+                              | false ↦
+                                  elim (eqb c closes) [
+                                    | true ↦ taken closing 1
+                                    | false ↦
+                                        elim (eqb c separates) [ true ↦ taken semicolon 1 | false ↦ wrong 2 ]
+                                  ]
+                            ]
+                      ]
+                ]
+          ]
+    ]
 
 unfoldable pub front : Bytes → Front
 front [] = nothing
@@ -74,6 +123,7 @@ scan zero at s =
 scan (suc room) at s =
     let n = run isBlankByte s in
     elim (front (drop n s)) [
-      nothing ↦ passed []
-    | wrong k ↦ refused k (at + n)
-    | taken t m ↦ before (record { token = t; start = at + n }) (scan room (at + n + m) (drop (n + m) s)) ]
+      | nothing ↦ passed []
+      | wrong k ↦ refused k (at + n)
+      | taken t m ↦ before (record { token = t; start = at + n }) (scan room (at + n + m) (drop (n + m) s))
+    ]

@@ -7,11 +7,32 @@ use lib.Dec.{eqb}
 use lib.ListN.{length}
 use Rattle.grammar.specs.Bytes.{Bytes, isEmpty}
 use Rattle.grammar.specs.Token.{
-  Token, symbol, number, quoted, opening, closing, semicolon, keywordLet, keywordIn, keywordEnd}
+  Token,
+  symbol,
+  number,
+  quoted,
+  opening,
+  closing,
+  semicolon,
+  keywordLet,
+  keywordIn,
+  keywordEnd,
+}
 use Rattle.grammar.specs.Operator.{Fixity, Prefix, Infix, Postfix, Role, Roles, Table, role, hasRole}
 use Rattle.grammar.specs.Span.{Item, single, pair, scope}
 use Rattle.grammar.specs.SpanTree.{
-  SpanTree, missing, operand, apply, present, fixity, root, level, rightRoot, admitsBoth, isOperand}
+  SpanTree,
+  missing,
+  operand,
+  apply,
+  present,
+  fixity,
+  root,
+  level,
+  rightRoot,
+  admitsBoth,
+  isOperand,
+}
 
 unfoldable pub firstRole : Option Role → Option Role → Option Role
 firstRole none b = b
@@ -104,8 +125,9 @@ partTree zero T is = none
 partTree (suc k) T [] = some missing
 partTree (suc k) T (i ∷ is) =
     elim (rootOf T (i ∷ is)) [
-      none ↦ lone T i is
-    | some s ↦ joined T (partTree k T (s .before)) (s .operator) (partTree k T (s .after)) ]
+      | none ↦ lone T i is
+      | some s ↦ joined T (partTree k T (s .before)) (s .operator) (partTree k T (s .after))
+    ]
 
 -- The tree of a span. "Nothing at all has no tree".
 unfoldable pub treeOfSpan : Table → List Item → Option SpanTree

@@ -4,7 +4,17 @@ use mathlib.Core.Bool.{Bool, true, false}
 use mathlib.Core.List.{List, [], _∷_, _++_}
 use Prim.Native.Nat.{ℕ, zero, suc}
 use Rattle.grammar.specs.Token.{
-  Token, symbol, number, quoted, opening, closing, semicolon, keywordLet, keywordIn, keywordEnd}
+  Token,
+  symbol,
+  number,
+  quoted,
+  opening,
+  closing,
+  semicolon,
+  keywordLet,
+  keywordIn,
+  keywordEnd,
+}
 
 -- What a span is made of: tokens of its own, bracket pairs with what is inside, blocks with their declarations and body.
 pub data Item : Type 0 where
@@ -67,19 +77,22 @@ unfoldable pub itemsFrom : Walk → List Token → List Item
 itemsFrom w [] = []
 itemsFrom outside (t ∷ ts) =
     elim (effect t) [
-      opensOne b ↦ itemsFrom (inside b 0 []) ts
-    | closesOne ↦ itemsFrom outside ts
-    | neither ↦ single t ∷ itemsFrom outside ts ]
+      | opensOne b ↦ itemsFrom (inside b 0 []) ts
+      | closesOne ↦ itemsFrom outside ts
+      | neither ↦ single t ∷ itemsFrom outside ts
+    ]
 itemsFrom (inside b zero us) (t ∷ ts) =
     elim (effect t) [
-      opensOne c ↦ itemsFrom (inside b 1 (us ++ t ∷ [])) ts
-    | closesOne ↦ item b us ∷ itemsFrom outside ts
-    | neither ↦ itemsFrom (inside b 0 (us ++ t ∷ [])) ts ]
+      | opensOne c ↦ itemsFrom (inside b 1 (us ++ t ∷ [])) ts
+      | closesOne ↦ item b us ∷ itemsFrom outside ts
+      | neither ↦ itemsFrom (inside b 0 (us ++ t ∷ [])) ts
+    ]
 itemsFrom (inside b (suc d) us) (t ∷ ts) =
     elim (effect t) [
-      opensOne c ↦ itemsFrom (inside b (suc (suc d)) (us ++ t ∷ [])) ts
-    | closesOne ↦ itemsFrom (inside b d (us ++ t ∷ [])) ts
-    | neither ↦ itemsFrom (inside b (suc d) (us ++ t ∷ [])) ts ]
+      | opensOne c ↦ itemsFrom (inside b (suc (suc d)) (us ++ t ∷ [])) ts
+      | closesOne ↦ itemsFrom (inside b d (us ++ t ∷ [])) ts
+      | neither ↦ itemsFrom (inside b (suc d) (us ++ t ∷ [])) ts
+    ]
 
 -- The items of a span, from its tokens. (Of tokens that passed check 6 nothing is lost.)
 unfoldable pub items : List Token → List Item

@@ -7,9 +7,31 @@ use Prim.Native.Nat.{ℕ}
 use lib.Dec.{ltb, eqb}
 use Rattle.grammar.specs.Bytes.{Bytes}
 use Rattle.grammar.specs.Token.{
-  Token, symbol, number, quoted, opening, closing, semicolon, keywordLet, keywordIn, keywordEnd}
+  Token,
+  symbol,
+  number,
+  quoted,
+  opening,
+  closing,
+  semicolon,
+  keywordLet,
+  keywordIn,
+  keywordEnd,
+}
 use Rattle.grammar.specs.Operator.{
-  Fixity, Prefix, Infix, Postfix, Associativity, left, right, non, Role, Table, role, inForce}
+  Fixity,
+  Prefix,
+  Infix,
+  Postfix,
+  Associativity,
+  left,
+  right,
+  non,
+  Role,
+  Table,
+  role,
+  inForce,
+}
 use Rattle.grammar.specs.Span.{Item, single, pair, scope}
 
 -- A tree of a span. An operator stands between its operands; where it has none on a side, that operand is `missing`.

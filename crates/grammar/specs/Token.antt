@@ -55,15 +55,39 @@ signs = bytes "+-*/<>=!&|^~:?@#$%"
 -- The class of a byte. "Solo: `(`, `)`, `;`."
 unfoldable pub class : ℕ → ℕ
 class b =
-    elim (isBlank b) [ true ↦ blank | false ↦
-    elim (isLetter b) [ true ↦ letter | false ↦
-    elim (within 48 57 b) [ true ↦ digit | false ↦
-    elim (eqb b 95) [ true ↦ underscore | false ↦
-    elim (member b signs) [ true ↦ sign | false ↦
-    elim (eqb b 39) [ true ↦ quote | false ↦
-    elim (eqb b 40) [ true ↦ opens | false ↦
-    elim (eqb b 41) [ true ↦ closes | false ↦
-    elim (eqb b 59) [ true ↦ separates | false ↦ other ] ] ] ] ] ] ] ] ]
+    elim (isBlank b) [
+      | true ↦ blank
+      | false ↦
+          elim (isLetter b) [
+            | true ↦ letter
+            | false ↦
+                elim (within 48 57 b) [
+                  | true ↦ digit
+                  | false ↦
+                      elim (eqb b 95) [
+                        | true ↦ underscore
+                        | false ↦
+                            elim (member b signs) [
+                              | true ↦ sign
+                              | false ↦
+                                  elim (eqb b 39) [
+                                    | true ↦ quote
+                                    | false ↦
+                                        elim (eqb b 40) [
+                                          | true ↦ opens
+                                          | false ↦
+                                              elim (eqb b 41) [
+                                                | true ↦ closes
+                                                | false ↦
+                                                    elim (eqb b 59) [ true ↦ separates | false ↦ other ]
+                                              ]
+                                        ]
+                                  ]
+                            ]
+                      ]
+                ]
+          ]
+    ]
 
 -- "Word: a letter, then letters, digits or `_`."
 unfoldable pub beginsWord : ℕ → Bool
@@ -145,3 +169,7 @@ isToken semicolon = true
 isToken keywordLet = true
 isToken keywordIn = true
 isToken keywordEnd = true
+
+unfoldable pub areTokens : List Token → Bool
+areTokens [] = true
+areTokens (t ∷ ts) = isToken t && areTokens ts

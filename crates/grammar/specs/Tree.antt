@@ -2,6 +2,7 @@
 use mathlib.Core.Path.{_≡_}
 use mathlib.Core.Bool.{Bool, true, false}
 use mathlib.Core.List.{List, [], _∷_, _++_}
+use Prim.Native.Nat.{ℕ, suc, max}
 use Rattle.grammar.specs.Bytes.{Bytes}
 use Rattle.grammar.specs.Token.{Token, symbol, opening, closing, keywordLet, keywordIn, keywordEnd}
 use Rattle.grammar.specs.Operator.{Table, Conditions}
@@ -24,6 +25,14 @@ flat (leaf t) = t ∷ []
 flat (bracket t) = opening ∷ flat t ++ closing ∷ []
 flat (block ds t) = keywordLet ∷ allTokens ds ++ keywordIn ∷ flat t ++ keywordEnd ∷ []
 flat (node l m r) = flat l ++ symbol m ∷ flat r
+
+-- How deep brackets and blocks stand in one another.
+unfoldable pub depth : Tree → ℕ
+depth nothing = 0
+depth (leaf t) = 0
+depth (bracket t) = suc (depth t)
+depth (block ds t) = suc (depth t)
+depth (node l m r) = max (depth l) (depth r)
 
 -- The tree of the outermost span of a tree.
 unfoldable pub spanTree : Tree → SpanTree

@@ -1,0 +1,4 @@
+pub mod Logic
+pub mod Lists
+pub mod Positive
+pub mod Plain
