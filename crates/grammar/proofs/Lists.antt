@@ -1,4 +1,4 @@
--- Two ways to cut one list at an element.
+-- Two ways to cut one list at an element, and what holds of every element of a list.
 use mathlib.Core.Path.{_≡_, refl, sym, ap, ap₂, _∙_}
 use mathlib.Core.List.{List, [], _∷_, _++_, head-eq-of-cons-eq, tail-eq-of-cons-eq}
 
@@ -19,3 +19,29 @@ module _ {A : Type 0} where
       further h (here p q r) = here (ap₂ _∷_ h p) q r
       further h (inLeft w p q) = inLeft w (ap₂ _∷_ h p) q
       further h (inRight w p q) = inRight w (ap₂ _∷_ (sym h) p) q
+
+module _ {A : Type 0} (P : A → Type 0) where
+  -- Of every element.
+  abbrev pub All : List A → Type 0
+  All [] = Unit {0}
+  All (x ∷ xs) = P x × All xs
+
+  pub all-left : (xs ys : List A) → All (xs ++ ys) → All xs
+  all-left [] ys h = tt
+  all-left (x ∷ xs) ys h = (h .0, all-left xs ys (h .1))
+
+  pub all-right : (xs ys : List A) → All (xs ++ ys) → All ys
+  all-right [] ys h = h
+  all-right (x ∷ xs) ys h = all-right xs ys (h .1)
+
+  pub all-append : (xs ys : List A) → All xs → All ys → All (xs ++ ys)
+  all-append [] ys h g = g
+  all-append (x ∷ xs) ys h g = (h .0, all-append xs ys (h .1) g)
+
+pub all-map : {A : Type 0} (P Q : A → Type 0) → ((x : A) → P x → Q x) → (xs : List A) → All P xs → All Q xs
+all-map P Q f [] h = tt
+all-map P Q f (x ∷ xs) h = (f x (h .0), all-map P Q f xs (h .1))
+
+pub all-both : {A : Type 0} (P Q : A → Type 0) (xs : List A) → All P xs → All Q xs → All (λ x. P x × Q x) xs
+all-both P Q [] h g = tt
+all-both P Q (x ∷ xs) h g = ((h .0, g .0), all-both P Q xs (h .1) (g .1))

@@ -1,8 +1,9 @@
 -- Document 01, "Thirteen ways to say no": what both services answer, and what the lent buffer holds afterwards.
+use mathlib.Core.Path.{_≡_}
 use mathlib.Core.Bool.{Bool, true, false, _&&_}
 use mathlib.Core.List.{List, [], _∷_, _++_, map}
 use mathlib.Core.Option.{Option, none, some}
-use Prim.Native.Nat.{ℕ, suc, _*_}
+use Prim.Native.Nat.{ℕ, suc, _*_, _≤_}
 use lib.Dec.{leb}
 use lib.ListN.{length, drop, getD}
 use Rattle.grammar.specs.Bytes.{Bytes}
@@ -68,6 +69,13 @@ readText text =
       | true ↦ andThen (scan mostTokens 0 text) (readTokens text)
       | false ↦ refused 1 longestText
     ]
+
+-- "a text is past checks 1 to 10 when nothing that comes before 11 in the order of refusals holds of it": the text, its tokens.
+pub record Past (text : Bytes) (ps : List Placed) : Type 0 where
+  pub short : length text ≤ longestText
+  pub scanned : scan mostTokens 0 text ≡ passed ps
+  pub nested : nesting [] 0 (tokensOf ps) ≡ passed tt
+  pub declared : checkBlocks (suc (length ps)) startTable 0 (tokensOf ps) ≡ passed tt
 
 -- "The answer is (number, place, count). Read: 0, 0, nodes or bytes written. Refused: count 0"
 pub record Answer : Type 0 where

@@ -18,6 +18,10 @@ use Rattle.grammar.specs.Search.{treeOfSpan}
 unfoldable pub bodyTable : Table → List Token → Table
 bodyTable T ds = declareAll T (declarations ds)
 
+-- "after `end` the outer table is back": the operators in force behind an item.
+abbrev pub tableBehind : Table → Item → Table
+tableBehind T x = T
+
 -- "then blocks by their `let`, each declaration complete .. (8, then 9), then 10". The first number is fuel: no less than the
 -- depth. `i` is the number of the first token.
 module _ (inner : Table → ℕ → List Token → Outcome (Unit {0})) where
@@ -29,7 +33,7 @@ module _ (inner : Table → ℕ → List Token → Outcome (Unit {0})) where
 
   unfoldable pub checkItems : Table → ℕ → List Item → Outcome (Unit {0})
   checkItems T i [] = passed tt
-  checkItems T i (x ∷ xs) = andThen (checkItem T i x) (λ u. checkItems T (i + length (itemTokens x)) xs)
+  checkItems T i (x ∷ xs) = andThen (checkItem T i x) (λ u. checkItems (tableBehind T x) (i + length (itemTokens x)) xs)
 
 unfoldable pub checkBlocks : ℕ → Table → ℕ → List Token → Outcome (Unit {0})
 checkBlocks zero T i ts = passed tt
@@ -50,7 +54,7 @@ module _ (inner : Table → Option ℕ → ℕ → List Token → List Span) whe
 
   unfoldable pub allItemSpans : Table → ℕ → List Item → List Span
   allItemSpans T i [] = []
-  allItemSpans T i (x ∷ xs) = itemSpans T i x ++ allItemSpans T (i + length (itemTokens x)) xs
+  allItemSpans T i (x ∷ xs) = itemSpans T i x ++ allItemSpans (tableBehind T x) (i + length (itemTokens x)) xs
 
 unfoldable pub spans : ℕ → Table → Option ℕ → ℕ → List Token → List Span
 spans zero T o i ts = []

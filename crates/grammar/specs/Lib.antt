@@ -1,5 +1,6 @@
 pub mod Bytes
 pub mod Token
+pub mod Spelling
 pub mod Outcome
 pub mod Scan
 pub mod Operator

@@ -8,6 +8,7 @@ use lib.ListN.{length, take, drop, getD}
 use Rattle.grammar.specs.Bytes.{Bytes, bytes, same}
 use Rattle.grammar.specs.Token.{
   class,
+  isBlankByte,
   blank,
   letter,
   digit,
@@ -45,9 +46,6 @@ pub record Placed : Type 0 where
 unfoldable pub run : (ℕ → Bool) → Bytes → ℕ
 run p [] = 0
 run p (b ∷ s) = elim (p b) [ true ↦ suc (run p s) | false ↦ 0 ]
-
-unfoldable pub isBlankByte : ℕ → Bool
-isBlankByte b = eqb (class b) blank
 
 -- What stands at the front of a text: nothing, a token with its length, or the number of a refusal.
 pub data Front : Type 0 where

@@ -89,6 +89,10 @@ class b =
           ]
     ]
 
+-- "they separate and mean nothing else"
+unfoldable pub isBlankByte : ℕ → Bool
+isBlankByte b = eqb (class b) blank
+
 -- "Word: a letter, then letters, digits or `_`."
 unfoldable pub beginsWord : ℕ → Bool
 beginsWord b = eqb (class b) letter

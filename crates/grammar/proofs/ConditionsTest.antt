@@ -1,0 +1,247 @@
+-- The test at `in` is the four conditions: `lawful` of the roles of one name, `lawfulTable` of the whole list.
+-- A lookup gives the roles of an operator in the list, or none; where no two operators have the same name, each one is looked up.
+use mathlib.Core.Path.{_≡_, refl, sym, fun-ext, _∙_}
+use mathlib.Core.Bool.{Bool, true, false, _&&_}
+use mathlib.Core.List.{[], _∷_}
+use mathlib.Core.Option.{Option, none, some}
+use borrow.Author.Tests.{eqb-true, eq-eqb}
+use Rattle.grammar.specs.Bytes.{Bytes, same}
+use Rattle.grammar.specs.Operator.{
+  Fixity,
+  Prefix,
+  Infix,
+  Postfix,
+  Associativity,
+  left,
+  right,
+  non,
+  Role,
+  Roles,
+  sameFixity,
+  sameAssociativity,
+  Operator,
+  Table,
+  role,
+  replaced,
+  declareRole,
+  Lawful,
+  Conditions,
+  oneLevelTest,
+  only,
+  absentRole,
+  besideInfix,
+  lawfulSides,
+  lawful,
+  lawfulTable,
+}
+use Rattle.grammar.specs.Declaration.{value, valueFrom, declare, declareAll, startDeclarations, start}
+use Rattle.grammar.proofs.Logic.{and-left, and-right, and-intro, clash, same-eq, same-refl}
+use Rattle.grammar.proofs.Operators.{both, listed, Distinct}
+
+-- The parts of the test.
+record Parts (r : Roles) : Type 0 where
+  prefixInfix : oneLevelTest (r Prefix) (r Infix) ≡ true
+  infixPostfix : oneLevelTest (r Infix) (r Postfix) ≡ true
+  prefixPostfix : oneLevelTest (r Prefix) (r Postfix) ≡ true
+  sides : lawfulSides (r Prefix) (r Infix) (r Postfix) ≡ true
+
+parts : (r : Roles) → lawful r ≡ true → Parts r
+unfolding lawful
+parts r e =
+    let a : Bool = oneLevelTest (r Prefix) (r Infix) in
+    let b : Bool = oneLevelTest (r Infix) (r Postfix) in
+    let c : Bool = oneLevelTest (r Prefix) (r Postfix) in
+    let d : Bool = lawfulSides (r Prefix) (r Infix) (r Postfix) in
+    let abc : a && b && c ≡ true = and-left (a && b && c) d e in
+    let ab : a && b ≡ true = and-left (a && b) c abc in
+    record {
+      prefixInfix = and-left a b ab;
+      infixPostfix = and-right a b ab;
+      prefixPostfix = and-right (a && b) c abc;
+      sides = and-right (a && b && c) d e;
+    }
+
+-- Condition 1 of two roles.
+level-sound :
+    (x y : Option Role) → oneLevelTest x y ≡ true → (a b : Role) → x ≡ some a → y ≡ some b → a .precedence ≡ b .precedence
+unfolding oneLevelTest
+level-sound x y e a b p q = eqb-true (a .precedence) (b .precedence) (rw (p, q) at e)
+
+level-complete :
+    (x y : Option Role) → ((a b : Role) → x ≡ some a → y ≡ some b → a .precedence ≡ b .precedence) → oneLevelTest x y ≡ true
+unfolding oneLevelTest
+level-complete none none h = refl
+level-complete none (some b) h = refl
+level-complete (some a) none h = refl
+level-complete (some a) (some b) h = eq-eqb (a .precedence) (b .precedence) (h a b refl refl)
+
+-- A role, where there is one, has the associativity.
+same-associativity : (a b : Associativity) → sameAssociativity a b ≡ true → b ≡ a
+unfolding sameAssociativity
+same-associativity left left e = refl
+same-associativity left right e = absurd (clash e refl)
+same-associativity left non e = absurd (clash e refl)
+same-associativity right left e = absurd (clash e refl)
+same-associativity right right e = refl
+same-associativity right non e = absurd (clash e refl)
+same-associativity non left e = absurd (clash e refl)
+same-associativity non right e = absurd (clash e refl)
+same-associativity non non e = refl
+
+associativity-refl : (a : Associativity) → sameAssociativity a a ≡ true
+unfolding sameAssociativity
+associativity-refl left = refl
+associativity-refl right = refl
+associativity-refl non = refl
+
+only-sound : (c : Associativity) (x : Option Role) → only c x ≡ true → (b : Role) → x ≡ some b → b .associativity ≡ c
+unfolding only
+only-sound c x e b p = same-associativity c (b .associativity) (rw p at e)
+
+only-complete : (c : Associativity) (x : Option Role) → ((b : Role) → x ≡ some b → b .associativity ≡ c) → only c x ≡ true
+unfolding only
+only-complete c none h = refl
+only-complete c (some b) h = rw (h b refl) (associativity-refl c)
+
+absent-sound : (x : Option Role) → absentRole x ≡ true → x ≡ none
+unfolding absentRole
+absent-sound none e = refl
+absent-sound (some b) e = absurd (clash e refl)
+
+absent-complete : (x : Option Role) → x ≡ none → absentRole x ≡ true
+unfolding absentRole
+absent-complete x e = rw e
+
+-- Conditions 2 to 4, with an infix role.
+beside-sound :
+    (r : Roles) → lawful r ≡ true → (a : Role) → r Infix ≡ some a → (c : Associativity) → a .associativity ≡ c
+    → besideInfix c (r Prefix) (r Postfix) ≡ true
+unfolding lawfulSides
+beside-sound r e a p c s = rw (p, s) at (parts r e .sides)
+
+beside-complete :
+    (r : Roles) → Lawful r → (a : Role) → r Infix ≡ some a → (c : Associativity) → a .associativity ≡ c
+    → besideInfix c (r Prefix) (r Postfix) ≡ true
+unfolding besideInfix
+beside-complete r l a p left s =
+    and-intro (only-complete non (r Prefix) (l .infixLeft a p s .0)) (only-complete left (r Postfix) (l .infixLeft a p s .1))
+beside-complete r l a p right s =
+    and-intro (only-complete right (r Prefix) (l .infixRight a p s .0)) (absent-complete (r Postfix) (l .infixRight a p s .1))
+beside-complete r l a p non s =
+    and-intro (only-complete non (r Prefix) (l .infixNon a p s Prefix)) (only-complete non (r Postfix) (l .infixNon a p s Postfix))
+
+sides-complete : (r : Roles) → Lawful r → lawfulSides (r Prefix) (r Infix) (r Postfix) ≡ true
+unfolding lawfulSides
+sides-complete r l = go (r Infix) refl
+  where
+    go : (x : Option Role) → r Infix ≡ x → lawfulSides (r Prefix) x (r Postfix) ≡ true
+    go none e = refl
+    go (some a) e = beside-complete r l a e (a .associativity) refl
+
+-- The test of the roles of one name is sound ..
+pub lawful-sound : (r : Roles) → lawful r ≡ true → Lawful r
+unfolding besideInfix
+lawful-sound r e = record { oneLevel = level; infixNon = besideNon; infixLeft = besideLeft; infixRight = besideRight }
+  where
+    level : (f g : Fixity) (a b : Role) → r f ≡ some a → r g ≡ some b → a .precedence ≡ b .precedence
+    level Prefix Prefix a b p q = cc
+    level Prefix Infix a b p q = level-sound (r Prefix) (r Infix) (parts r e .prefixInfix) a b p q
+    level Prefix Postfix a b p q = level-sound (r Prefix) (r Postfix) (parts r e .prefixPostfix) a b p q
+    level Infix Prefix a b p q = sym (level-sound (r Prefix) (r Infix) (parts r e .prefixInfix) b a q p)
+    level Infix Infix a b p q = cc
+    level Infix Postfix a b p q = level-sound (r Infix) (r Postfix) (parts r e .infixPostfix) a b p q
+    level Postfix Prefix a b p q = sym (level-sound (r Prefix) (r Postfix) (parts r e .prefixPostfix) b a q p)
+    level Postfix Infix a b p q = sym (level-sound (r Infix) (r Postfix) (parts r e .infixPostfix) b a q p)
+    level Postfix Postfix a b p q = cc
+
+    besideNon :
+        (a : Role) → r Infix ≡ some a → a .associativity ≡ non → (f : Fixity) (b : Role) → r f ≡ some b → b .associativity ≡ non
+    besideNon a p s Prefix b q =
+        only-sound non (r Prefix) (and-left (only non (r Prefix)) (only non (r Postfix)) (beside-sound r e a p non s)) b q
+    besideNon a p s Infix b q = cc
+    besideNon a p s Postfix b q =
+        only-sound non (r Postfix) (and-right (only non (r Prefix)) (only non (r Postfix)) (beside-sound r e a p non s)) b q
+
+    besideLeft :
+        (a : Role) → r Infix ≡ some a → a .associativity ≡ left
+        → ((b : Role) → r Prefix ≡ some b → b .associativity ≡ non) × ((b : Role) → r Postfix ≡ some b → b .associativity ≡ left)
+    besideLeft a p s =
+        let h : only non (r Prefix) && only left (r Postfix) ≡ true = beside-sound r e a p left s in
+        (only-sound non (r Prefix) (and-left _ (only left (r Postfix)) h), only-sound left (r Postfix) (and-right (only non (r Prefix)) _ h))
+
+    besideRight :
+        (a : Role) → r Infix ≡ some a → a .associativity ≡ right
+        → ((b : Role) → r Prefix ≡ some b → b .associativity ≡ right) × (r Postfix ≡ none)
+    besideRight a p s =
+        let h : only right (r Prefix) && absentRole (r Postfix) ≡ true = beside-sound r e a p right s in
+        (only-sound right (r Prefix) (and-left _ (absentRole (r Postfix)) h), absent-sound (r Postfix) (and-right (only right (r Prefix)) _ h))
+
+-- .. and complete.
+pub lawful-complete : (r : Roles) → Lawful r → lawful r ≡ true
+unfolding lawful
+lawful-complete r l = and-intro (and-intro (and-intro (level Prefix Infix) (level Infix Postfix)) (level Prefix Postfix)) (sides-complete r l)
+  where
+    level : (f g : Fixity) → oneLevelTest (r f) (r g) ≡ true
+    level f g = level-complete (r f) (r g) (l .oneLevel f g)
+
+-- A lookup gives the roles of the first operator if it has the name, and of the rest otherwise.
+lawful-first : (o : Operator) (T : Table) (m : Bytes) → same m (o .name) ≡ true → lawful (role (o ∷ T) m) ≡ lawful (o .roles)
+unfolding lawful role
+lawful-first o T m e = rw (e, role)
+
+lawful-rest : (o : Operator) (T : Table) (m : Bytes) → same m (o .name) ≡ false → lawful (role (o ∷ T) m) ≡ lawful (role T m)
+unfolding lawful role
+lawful-rest o T m e = rw (e, role)
+
+lawful-found : (T : Table) (m : Bytes) → lawfulTable T ≡ true → lawful (role T m) ≡ true
+unfolding lawfulTable lawful role oneLevelTest lawfulSides
+lawful-found [] m e = refl
+lawful-found (o ∷ T) m e =
+    let (h, k) = both (lawful (o .roles)) (lawfulTable T) e in
+    go (same m (o .name)) refl h (lawful-found T m k)
+  where
+    go : (b : Bool) → same m (o .name) ≡ b → lawful (o .roles) ≡ true → lawful (role T m) ≡ true → lawful (role (o ∷ T) m) ≡ true
+    go true d h k = lawful-first o T m d ∙ h
+    go false d h k = lawful-rest o T m d ∙ k
+
+-- What passes the test at `in` satisfies the four conditions ..
+pub conditions-sound : (T : Table) → lawfulTable T ≡ true → Conditions T
+conditions-sound T e m = lawful-sound (role T m) (lawful-found T m e)
+
+-- A name that is not listed has no role, which is lawful.
+unlisted-role : (T : Table) (m : Bytes) (f : Fixity) → listed m T ≡ false → role T m f ≡ none
+unfolding listed role
+unlisted-role [] m f e = refl
+unlisted-role (o ∷ T) m f e = go (same m (o .name)) refl (unlisted-role T m f)
+  where
+    go : (b : Bool) → same m (o .name) ≡ b → (listed m T ≡ false → role T m f ≡ none) → role (o ∷ T) m f ≡ none
+    go true d h = absurd (clash refl (rw (d, listed) at e))
+    go false d h = rw (d, role) (h (rw (d, listed) at e))
+
+unlisted-lawful : (T : Table) (m : Bytes) → listed m T ≡ false → lawful (role T m) ≡ true
+unfolding lawful oneLevelTest lawfulSides
+unlisted-lawful T m e =
+    let h : role T m ≡ (λ f. none) = fun-ext (λ f. unlisted-role T m f e) in
+    rw h
+
+-- Each operator of the list is looked up by its name, and the rest of the list gives nothing else.
+found-lawful : (T : Table) → Distinct T → ((m : Bytes) → lawful (role T m) ≡ true) → lawfulTable T ≡ true
+unfolding lawfulTable
+found-lawful [] p c = refl
+found-lawful (o ∷ T) (u, p) c = rw (first, lawfulTable) (found-lawful T p (λ m. rest m (same m (o .name)) refl))
+  where
+    first : lawful (o .roles) ≡ true
+    first = sym (lawful-first o T (o .name) (same-refl (o .name))) ∙ c (o .name)
+
+    rest : (m : Bytes) (b : Bool) → same m (o .name) ≡ b → lawful (role T m) ≡ true
+    rest m true d = unlisted-lawful T m (rw (same-eq m (o .name) d) u)
+    rest m false d = sym (lawful-rest o T m d) ∙ c m
+
+-- .. and what satisfies them passes.
+pub conditions-complete : (T : Table) → Distinct T → Conditions T → lawfulTable T ≡ true
+conditions-complete T p c = found-lawful T p (λ m. lawful-complete (role T m) (c m))
+
+-- The eight operators at the start satisfy the conditions.
+pub conditions-start : Conditions start
+unfolding start startDeclarations declareAll declare declareRole same value valueFrom replaced sameFixity lawfulTable lawful oneLevelTest lawfulSides besideInfix only absentRole sameAssociativity
+conditions-start = conditions-sound start refl

@@ -1,0 +1,152 @@
+-- Which numbers each check can give: 2 to 5 the scan, 6 and 7 the nesting, 8 to 10 declarations and blocks.
+-- A check is built from refusals with a number written out, from choices and from one check after another, and each keeps the bounds.
+use mathlib.Core.Path.{_≡_, refl}
+use mathlib.Core.Bool.{Bool, true, false, _&&_}
+use mathlib.Core.List.{List, [], _∷_}
+use Prim.Native.Nat.{ℕ, zero, suc, _+_, _≤_}
+use native.Mathlib.Omega.{arith}
+use lib.Dec.{leb, ltb, eqb}
+use lib.ListN.{length, take, drop, getD}
+use Rattle.grammar.specs.Bytes.{Bytes}
+use Rattle.grammar.specs.Token.{Token, class, isBlankByte, letter, digit, sign, quote, opens, closes, separates, inQuotes, longestName}
+use Rattle.grammar.specs.Outcome.{Outcome, refused, passed, andThen}
+use Rattle.grammar.specs.Operator.{Table, lawfulTable}
+use Rattle.grammar.specs.Scan.{Placed, run, Front, nothing, wrong, taken, atMost, quotedName, frontOf, front, before, scan}
+use Rattle.grammar.specs.Nesting.{Open, Move, stays, broken, enters, becomes, leaves, move, closeInnermost, deepest, nesting}
+use Rattle.grammar.specs.Declaration.{Parsed, unfit, parsed, declaration, declare, declarationTokens, mostOperators, checkedAt, enter}
+use Rattle.grammar.specs.Span.{Item, single, pair, scope, itemTokens, items}
+use Rattle.grammar.specs.Blocks.{checkItem, checkItems, checkBlocks}
+
+module _ {A : Type 0} where
+  -- Every refusal of the outcome has a number from `low` to `high`.
+  abbrev pub Between : ℕ → ℕ → Outcome A → Type 0
+  Between low high (refused n p) = (low ≤ n) × (n ≤ high)
+  Between low high (passed a) = Unit {0}
+
+  pub between-number : (low high : ℕ) (o : Outcome A) → Between low high o → (n p : ℕ) → o ≡ refused n p → (low ≤ n) × (n ≤ high)
+  between-number low high o b n p e = rw e at b
+
+  -- A choice between two, whatever the test.
+  choice : (P : A → Type 0) (b : Bool) (x y : A) → P x → P y → P (elim b [ true ↦ x | false ↦ y ])
+  choice P true x y p q = p
+  choice P false x y p q = q
+
+pub between-andThen : {A B : Type 0} (low high : ℕ) (o : Outcome A) (f : A → Outcome B)
+    → Between low high o → ((a : A) → Between low high (f a)) → Between low high (andThen o f)
+unfolding andThen
+between-andThen low high (refused n p) f b c = b
+between-andThen low high (passed a) f b c = c a
+
+-- What stands at the front of a text is refused by 2, 3 or 4.
+abbrev FrontBetween : Front → Type 0
+FrontBetween nothing = Unit {0}
+FrontBetween (wrong k) = (2 ≤ k) × (k ≤ 4)
+FrontBetween (taken t n) = Unit {0}
+
+atMost-between : (most n : ℕ) (t : Token) → FrontBetween (atMost most n t)
+unfolding atMost
+atMost-between most n t = choice FrontBetween (leb n most) _ _ tt (omega arith)
+
+quotedName-between : (s : Bytes) → FrontBetween (quotedName s)
+unfolding quotedName
+quotedName-between s =
+    let n = run inQuotes s in
+    choice FrontBetween (leb 1 n && leb n longestName && eqb (getD s n 0) 39) _ _ tt (omega arith)
+
+frontOf-between : (c : ℕ) (s : Bytes) → FrontBetween (frontOf c s)
+unfolding frontOf
+frontOf-between c s =
+    choice FrontBetween (eqb c letter) _ _ (atMost-between _ _ _)
+    (choice FrontBetween (eqb c sign) _ _ (atMost-between _ _ _)
+    (choice FrontBetween (eqb c digit) _ _ (atMost-between _ _ _)
+    (choice FrontBetween (eqb c quote) _ _ (quotedName-between _)
+    (choice FrontBetween (eqb c opens) _ _ tt
+    (choice FrontBetween (eqb c closes) _ _ tt (choice FrontBetween (eqb c separates) _ _ tt (omega arith)))))))
+
+front-between : (s : Bytes) → FrontBetween (front s)
+unfolding front
+front-between [] = tt
+front-between (b ∷ s) = frontOf-between (class b) (b ∷ s)
+
+before-between : (p : Placed) (o : Outcome (List Placed)) → Between 2 5 o → Between 2 5 (before p o)
+unfolding before
+before-between p (refused n at) b = b
+before-between p (passed ps) b = tt
+
+-- One step of the scan, from what stands at the front and what becomes of the rest behind a token.
+scan-step : (f : Front) (place : ℕ) (rest : Token → ℕ → Outcome (List Placed)) → FrontBetween f → ((t : Token) (m : ℕ) → Between 2 5 (rest t m))
+    → Between {A = List Placed} 2 5 (elim f [ nothing ↦ passed [] | wrong k ↦ refused k place | taken t m ↦ rest t m ])
+scan-step nothing place rest b r = tt
+scan-step (wrong k) place rest b r = omega arith
+scan-step (taken t m) place rest b r = r t m
+
+scan-between : (room at : ℕ) (s : Bytes) → Between 2 5 (scan room at s)
+unfolding scan
+scan-between zero at s = scan-step (front (drop (run isBlankByte s) s)) _ _ (front-between _) (λ t m. omega arith)
+scan-between (suc room) at s =
+    scan-step (front (drop (run isBlankByte s) s)) _ _ (front-between _) (λ t m. before-between _ _ (scan-between room _ _))
+
+pub scan-number : (room at : ℕ) (s : Bytes) (n p : ℕ) → scan room at s ≡ refused n p → (2 ≤ n) × (n ≤ 5)
+scan-number room at s = between-number 2 5 (scan room at s) (scan-between room at s)
+
+nesting-step : (os : List Open) (i : ℕ) (t : Token) (ts : List Token) → ((os : List Open) (i : ℕ) → Between 6 7 (nesting os i ts))
+    → (m : Move) → move os t ≡ m → Between 6 7 (nesting os i (t ∷ ts))
+unfolding nesting
+nesting-step os i t ts rest stays e = rw (e, nesting) (rest os (suc i))
+nesting-step os i t ts rest broken e = rw (e, nesting) (omega arith)
+nesting-step os i t ts rest (enters o) e = rw (e, nesting) (choice (Between 6 7) (ltb (length os) deepest) _ _ (rest (o ∷ os) (suc i)) (omega arith))
+nesting-step os i t ts rest (becomes o) e = rw (e, nesting) (rest (o ∷ closeInnermost os) (suc i))
+nesting-step os i t ts rest leaves e = rw (e, nesting) (rest (closeInnermost os) (suc i))
+
+nesting-between : (os : List Open) (i : ℕ) (ts : List Token) → Between 6 7 (nesting os i ts)
+unfolding nesting
+nesting-between [] i [] = tt
+nesting-between (o ∷ os) i [] = omega arith
+nesting-between os i (t ∷ ts) = nesting-step os i t ts (λ us j. nesting-between us j ts) (move os t) refl
+
+pub nesting-number : (os : List Open) (i : ℕ) (ts : List Token) (n p : ℕ) → nesting os i ts ≡ refused n p → (6 ≤ n) × (n ≤ 7)
+nesting-number os i ts = between-number 6 7 (nesting os i ts) (nesting-between os i ts)
+
+checkedAt-between : (i : ℕ) (T : Table) → Between 8 10 (checkedAt i T)
+unfolding checkedAt
+checkedAt-between i T = choice (Between 8 10) (lawfulTable T) _ _ tt (omega arith)
+
+enter-step : (k : ℕ) (T : Table) (i : ℕ) (t : Token) (ts : List Token)
+    → ((T : Table) (i : ℕ) (ts : List Token) → Between 8 10 (enter k T i ts)) → (d : Parsed) → declaration (t ∷ ts) ≡ d
+    → Between 8 10 (enter (suc k) T i (t ∷ ts))
+unfolding enter
+enter-step k T i t ts rest (unfit n) e = rw (e, enter) (omega arith)
+enter-step k T i t ts rest (parsed d us) e =
+    rw (e, enter) (choice (Between 8 10) (leb (length (declare T d)) mostOperators) _ _ (rest (declare T d) (i + length (declarationTokens d)) us) (omega arith))
+
+enter-between : (k : ℕ) (T : Table) (i : ℕ) (ts : List Token) → Between 8 10 (enter k T i ts)
+unfolding enter
+enter-between zero T i [] = checkedAt-between i T
+enter-between zero T i (t ∷ ts) = omega arith
+enter-between (suc k) T i [] = checkedAt-between i T
+enter-between (suc k) T i (t ∷ ts) = enter-step k T i t ts (enter-between k) (declaration (t ∷ ts)) refl
+
+pub enter-number : (k : ℕ) (T : Table) (i : ℕ) (ts : List Token) (n p : ℕ) → enter k T i ts ≡ refused n p → (8 ≤ n) × (n ≤ 10)
+enter-number k T i ts = between-number 8 10 (enter k T i ts) (enter-between k T i ts)
+
+module _ (inner : Table → ℕ → List Token → Outcome (Unit {0})) (bounded : (T : Table) (i : ℕ) (ts : List Token) → Between 8 10 (inner T i ts)) where
+  checkItem-between : (T : Table) (i : ℕ) (x : Item) → Between 8 10 (checkItem inner T i x)
+  unfolding checkItem
+  checkItem-between T i (single t) = tt
+  checkItem-between T i (pair ts) = bounded T (suc i) ts
+  checkItem-between T i (scope ds ts) =
+      between-andThen 8 10 (enter (length ds) T (suc i) ds) _ (enter-between (length ds) T (suc i) ds) (λ U. bounded U (suc (suc (i + length ds))) ts)
+
+  checkItems-between : (T : Table) (i : ℕ) (xs : List Item) → Between 8 10 (checkItems inner T i xs)
+  unfolding checkItems
+  checkItems-between T i [] = tt
+  checkItems-between T i (x ∷ xs) =
+      between-andThen 8 10 (checkItem inner T i x) _ (checkItem-between T i x) (λ u. checkItems-between T (i + length (itemTokens x)) xs)
+
+blocks-between : (k : ℕ) (T : Table) (i : ℕ) (ts : List Token) → Between 8 10 (checkBlocks k T i ts)
+unfolding checkBlocks
+blocks-between zero T i ts = tt
+blocks-between (suc k) T i ts = checkItems-between (checkBlocks k) (blocks-between k) T i (items ts)
+
+pub blocks-number : (k : ℕ) (T : Table) (i : ℕ) (ts : List Token) (n p : ℕ) → checkBlocks k T i ts ≡ refused n p → (8 ≤ n) × (n ≤ 10)
+blocks-number k T i ts = between-number 8 10 (checkBlocks k T i ts) (blocks-between k T i ts)

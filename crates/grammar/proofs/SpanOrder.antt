@@ -1,0 +1,118 @@
+-- The spans of a text stand in the order of their starts, so the first one without a tree is the first by its start.
+-- The items of a span stand one behind the other and together are its tokens: of nested tokens nothing is lost. So the spans inside
+-- an item start within that item, and those of a later item start later.
+use mathlib.Core.Path.{_≡_, refl}
+use mathlib.Core.List.{List, [], _∷_, _++_, List·Memᴰ, List·Memᴰ·head, List·Memᴰ·tail}
+use mathlib.Core.Option.{Option, none, some}
+use Prim.Native.Nat.{ℕ, zero, suc, _+_, _≤_}
+use native.Mathlib.Omega.{arith}
+use lib.ListN.{length, length-append}
+use Rattle.grammar.specs.Token.{Token, closing, keywordIn, keywordEnd}
+use Rattle.grammar.specs.Outcome.{passed}
+use Rattle.grammar.specs.Operator.{Table}
+use Rattle.grammar.specs.Nesting.{nesting}
+use Rattle.grammar.specs.Span.{Item, single, pair, scope, itemTokens, items}
+use Rattle.grammar.specs.SpanTree.{SpanTree}
+use Rattle.grammar.specs.Search.{treeOfSpan}
+use Rattle.grammar.specs.Blocks.{bodyTable, Span, itemSpans, allItemSpans, spans, firstWithout}
+use Rattle.grammar.proofs.ItemsNested.{allItemTokens, ItemNested, AllNested, items-tokens, items-nested}
+
+-- Where a span starts, by its opener: the whole text at token 0, another one behind its opener.
+abbrev pub startOf : Option ℕ → ℕ
+startOf none = 0
+startOf (some i) = suc i
+
+-- The starts ascend: the first is `low` or more, each further one is higher than the one before it, and all are below `high`.
+abbrev pub Ascending : ℕ → ℕ → List Span → Type 0
+Ascending low high [] = low ≤ high
+Ascending low high (s ∷ ss) = (low ≤ startOf (s .opener)) × Ascending (suc (startOf (s .opener))) high ss
+
+ascending-wider : {low low′ high high′ : ℕ} (ss : List Span) → low′ ≤ low → high ≤ high′ → Ascending low high ss → Ascending low′ high′ ss
+ascending-wider [] l h a = omega arith
+ascending-wider (s ∷ ss) l h a = (omega arith, ascending-wider ss (omega arith) h (a .1))
+
+ascending-append : (low mid high : ℕ) (xs ys : List Span) → Ascending low mid xs → Ascending mid high ys → Ascending low high (xs ++ ys)
+ascending-append low mid high [] ys a b = ascending-wider ys a (omega arith) b
+ascending-append low mid high (s ∷ xs) ys a b = (a .0, ascending-append (suc (startOf (s .opener))) mid high xs ys (a .1) b)
+
+-- For nested tokens `inner` gives spans that start from the span's own start on and no later than behind its last token.
+abbrev Ordered : (Table → Option ℕ → ℕ → List Token → List Span) → Type 0
+Ordered inner =
+    (T : Table) (o : Option ℕ) (ts : List Token) (i : ℕ) → nesting [] i ts ≡ passed tt
+    → Ascending (startOf o) (suc (startOf o + length ts)) (inner T o (startOf o) ts)
+
+module _ (inner : Table → Option ℕ → ℕ → List Token → List Span) (ordered : Ordered inner) where
+  -- The spans inside an item at token `i` start within it.
+  item-ordered : (T : Table) (i : ℕ) (x : Item) → ItemNested x → Ascending (suc i) (suc (i + length (itemTokens x))) (itemSpans inner T i x)
+  unfolding itemSpans itemTokens
+  item-ordered T i (single t) n = omega arith
+  item-ordered T i (pair ts) n =
+      let e = length-append ts (closing ∷ []) in
+      ascending-wider (inner T (some i) (suc i) ts) (omega arith) (omega arith) (ordered T (some i) ts 0 (n 0))
+  item-ordered T i (scope ds ts) n =
+      let e = length-append (ds ++ keywordIn ∷ ts) (keywordEnd ∷ []) in
+      let f = length-append ds (keywordIn ∷ ts) in
+      let j = suc (i + length ds) in
+      ascending-wider (inner (bodyTable T ds) (some j) (suc j) ts) (omega arith) (omega arith) (ordered (bodyTable T ds) (some j) ts 0 (n .1 0))
+
+  -- So the spans inside items that stand one behind the other, the first at token `i`, are in order.
+  items-ordered : (T : Table) (i : ℕ) (xs : List Item) → AllNested xs → Ascending (suc i) (suc (i + length (allItemTokens xs))) (allItemSpans inner T i xs)
+  unfolding allItemSpans allItemTokens
+  items-ordered T i [] n = omega arith
+  items-ordered T i (x ∷ xs) n =
+      let e = length-append (itemTokens x) (allItemTokens xs) in
+      let j = i + length (itemTokens x) in
+      let later = allItemSpans inner T j xs in
+      ascending-append (suc i) (suc j) (suc (i + length (itemTokens x ++ allItemTokens xs))) (itemSpans inner T i x) later (item-ordered T i x (n .0))
+      (ascending-wider later (omega arith) (omega arith) (items-ordered T j xs (n .1)))
+
+-- The spans of a span's nested tokens are in order: first itself, then those inside its items.
+pub spans-ordered : (k : ℕ) → Ordered (spans k)
+unfolding spans
+spans-ordered zero T o ts i n = omega arith
+spans-ordered (suc k) T o ts i n =
+    (omega arith, rw (items-tokens ts i n) at (items-ordered (spans k) (spans-ordered k) T (startOf o) (items ts) (items-nested ts i n)))
+
+-- Of a whole text: the text itself, which has no opener, then the others by their openers, each the number of one of its tokens.
+pub spans-ascend : (k : ℕ) (T : Table) (ts : List Token) → nesting [] 0 ts ≡ passed tt
+    → (s : Span) × (ss : List Span) × (spans (suc k) T none 0 ts ≡ s ∷ ss) × (s .opener ≡ none) × Ascending 1 (suc (length ts)) ss
+unfolding spans
+spans-ascend k T ts n =
+    let ss = allItemSpans (spans k) T 0 (items ts) in
+    (_, ss, refl, refl, ascending-wider ss (omega arith) (omega arith) (spans-ordered (suc k) T none ts 0 n .1))
+
+-- No span of an ascending list starts before its lower bound.
+ascending-member : (low high : ℕ) {s : Span} {ss : List Span} → List·Memᴰ s ss → Ascending low high ss → low ≤ startOf (s .opener)
+ascending-member low high (List·Memᴰ·head e) a = rw e (a .0)
+ascending-member low high (List·Memᴰ·tail {x = x} m) a =
+    let h = ascending-member (suc (startOf (x .opener))) high m (a .1) in
+    omega arith
+
+-- The first span without a tree, by the tree of the first span.
+first-without-here : (x : Span) (ss : List Span) (o : Option ℕ) → treeOfSpan (x .table) (x .contents) ≡ none → firstWithout (x ∷ ss) ≡ some o → o ≡ x .opener
+unfolding firstWithout
+first-without-here x ss o t e = let f : some (x .opener) ≡ some o = rw (t, firstWithout) at e in cc
+
+first-without-later : (x : Span) (ss : List Span) (o : Option ℕ) (t : SpanTree) → treeOfSpan (x .table) (x .contents) ≡ some t
+    → firstWithout (x ∷ ss) ≡ some o → firstWithout ss ≡ some o
+unfolding firstWithout
+first-without-later x ss o t h e = rw (h, firstWithout) at e
+
+-- No span without a tree starts before the first one of an ascending list.
+first-ascending : (low high : ℕ) {s : Span} {ss : List Span} → List·Memᴰ s ss → Ascending low high ss → treeOfSpan (s .table) (s .contents) ≡ none
+    → (o : Option ℕ) → firstWithout ss ≡ some o → startOf o ≤ startOf (s .opener)
+first-ascending low high (List·Memᴰ·head {x = x} {xs = xs} e) a t o f = rw (first-without-here x xs o (rw e at t) f, e) (omega arith)
+first-ascending low high {s} (List·Memᴰ·tail {x = x} {xs = xs} m) a t o f =
+    split (first-ascending (suc (startOf (x .opener))) high m (a .1) t o) (treeOfSpan (x .table) (x .contents)) refl
+  where
+    split : (firstWithout xs ≡ some o → startOf o ≤ startOf (s .opener)) → (r : Option SpanTree) → treeOfSpan (x .table) (x .contents) ≡ r
+        → startOf o ≤ startOf (s .opener)
+    split later none h =
+        let l = ascending-member (suc (startOf (x .opener))) high m (a .1) in
+        rw (first-without-here x xs o h f) (omega arith)
+    split later (some r) h = later (first-without-later x xs o r h f)
+
+-- "11 for the first span by its start": the span that the search names first starts no later than any other span without a tree.
+pub first-by-start : (k : ℕ) (T : Table) (ts : List Token) → nesting [] 0 ts ≡ passed tt → (o : Option ℕ) → firstWithout (spans k T none 0 ts) ≡ some o
+    → (s : Span) → List·Memᴰ s (spans k T none 0 ts) → treeOfSpan (s .table) (s .contents) ≡ none → startOf o ≤ startOf (s .opener)
+first-by-start k T ts n o f s m t = first-ascending 0 (suc (0 + length ts)) m (spans-ordered k T none ts 0 n) t o f

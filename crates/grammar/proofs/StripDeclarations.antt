@@ -1,0 +1,81 @@
+-- Declarations without the zeros of their digits mean the same: they change the operators in force as before and pass checks 8 to 10
+-- as before, since both look at the value of the digits alone. Declarations that mean the same are the same without these zeros.
+use mathlib.Core.Path.{_≡_, refl, ap, ap₂}
+use mathlib.Core.Bool.{true}
+use mathlib.Core.List.{List, [], _∷_, map, tail-eq-of-cons-eq}
+use Prim.Native.Nat.{ℕ}
+use native.Mathlib.Omega.{arith}
+use lib.ListN.{length}
+use Rattle.grammar.specs.Token.{isNumber}
+use Rattle.grammar.specs.Operator.{Table}
+use Rattle.grammar.specs.Outcome.{passed}
+use Rattle.grammar.specs.Declaration.{
+  Declaration,
+  declares,
+  clears,
+  declare,
+  declareAll,
+  allTokens,
+  isPrecedence,
+  isDeclaration,
+  areDeclarations,
+  enter,
+}
+use Rattle.grammar.specs.Canonical.{stripDeclaration}
+use Rattle.grammar.specs.Abstract.{gives, takes, change}
+use Rattle.grammar.proofs.Numbers.{value-strip, strip-equal}
+use Rattle.grammar.proofs.Declarations.{declare-map, allow-map, enter-map}
+
+-- A declaration without the zeros of its digits: allowed as before, and it changes what is in force as before.
+strip-allows : (d : Declaration) → isDeclaration (stripDeclaration d) ≡ isDeclaration d
+unfolding isDeclaration stripDeclaration isPrecedence
+strip-allows (declares f a c m) = rw (value-strip c) refl
+strip-allows (clears m) = refl
+
+strip-changes : (T : Table) (d : Declaration) → declare T (stripDeclaration d) ≡ declare T d
+unfolding declare stripDeclaration
+strip-changes T (declares f a c m) = rw (value-strip c) refl
+strip-changes T (clears m) = refl
+
+pub declare-strip : (T : Table) (ds : List Declaration) → declareAll T (map stripDeclaration ds) ≡ declareAll T ds
+declare-strip = declare-map stripDeclaration strip-allows strip-changes
+
+pub strip-declarations : (ds : List Declaration) → areDeclarations ds ≡ true → areDeclarations (map stripDeclaration ds) ≡ true
+strip-declarations = allow-map stripDeclaration strip-allows strip-changes
+
+-- Declarations that passed checks 8 to 10 pass them without the zeros of their digits, wherever they stand.
+pub enter-strip :
+    (T : Table) (i j : ℕ) (ds : List Declaration) (U : Table) → areDeclarations ds ≡ true
+    → enter (length (allTokens ds)) T i (allTokens ds) ≡ passed U
+    → enter (length (allTokens (map stripDeclaration ds))) T j (allTokens (map stripDeclaration ds)) ≡ passed U
+enter-strip T i j ds U a e =
+    let k = length (allTokens ds) in
+    let l = length (allTokens (map stripDeclaration ds)) in
+    enter-map stripDeclaration strip-allows strip-changes k l T i j ds U a (omega arith) e
+
+-- They mean the same.
+pub change-strip : (ds : List Declaration) → map change (map stripDeclaration ds) ≡ map change ds
+unfolding change stripDeclaration
+change-strip [] = refl
+change-strip (declares f a c m ∷ ds) = ap₂ _∷_ (ap (λ v. gives f a v m) (value-strip c)) (change-strip ds)
+change-strip (clears m ∷ ds) = ap (_∷_ (takes m)) (change-strip ds)
+
+-- The precedences of declarations are written in digits.
+abbrev pub NumbersOk : List Declaration → Type 0
+NumbersOk [] = Unit {0}
+NumbersOk (declares f a c m ∷ ds) = (isNumber c ≡ true) × NumbersOk ds
+NumbersOk (clears m ∷ ds) = NumbersOk ds
+
+-- Declarations that mean the same are the same without the zeros of their digits.
+pub strip-by-change :
+    (ds es : List Declaration) → NumbersOk ds → NumbersOk es → map change ds ≡ map change es
+    → map stripDeclaration ds ≡ map stripDeclaration es
+unfolding change stripDeclaration
+strip-by-change [] [] p q h = refl
+strip-by-change [] (e ∷ es) p q h = cc
+strip-by-change (d ∷ ds) [] p q h = cc
+strip-by-change (declares f a c m ∷ ds) (declares g b d n ∷ es) p q h =
+    cc (strip-equal c d p.0 q.0 (cc), strip-by-change ds es p.1 q.1 (tail-eq-of-cons-eq h))
+strip-by-change (declares f a c m ∷ ds) (clears n ∷ es) p q h = cc
+strip-by-change (clears m ∷ ds) (declares g b d n ∷ es) p q h = cc
+strip-by-change (clears m ∷ ds) (clears n ∷ es) p q h = cc (strip-by-change ds es p q (tail-eq-of-cons-eq h))
