@@ -39,7 +39,8 @@ abbrev pub asked : Expected → Both
 asked (reads n ws text) =
     record {
       reading = result 0 0 n (ws ++ drop (length ws) nodeTable);
-      canonicalizing = result 0 0 (length text) (text ++ drop (length text) textBuffer) }
+      canonicalizing = result 0 0 (length text) (text ++ drop (length text) textBuffer);
+    }
 asked (refuses n p) = record { reading = result n p 0 nodeTable; canonicalizing = result n p 0 textBuffer }
 
 -- A node: kind, first child, second child, offset, length.

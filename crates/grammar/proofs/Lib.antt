@@ -29,3 +29,5 @@ pub mod CanonicalSize
 pub mod CanonicalTokens
 pub mod CanonicalAgreement
 pub mod RoundTrip
+pub mod Answers
+pub mod Claims

@@ -9,7 +9,7 @@ use lib.Dec.{leb, ltb, eqb}
 use lib.ListN.{length, take, drop, getD}
 use Rattle.grammar.specs.Bytes.{Bytes}
 use Rattle.grammar.specs.Token.{Token, class, isBlankByte, letter, digit, sign, quote, opens, closes, separates, inQuotes, longestName}
-use Rattle.grammar.specs.Outcome.{Outcome, refused, passed, andThen}
+use Rattle.grammar.specs.Outcome.{Outcome, refused, passed, andThen, placed}
 use Rattle.grammar.specs.Operator.{Table, lawfulTable}
 use Rattle.grammar.specs.Scan.{Placed, run, Front, nothing, wrong, taken, atMost, quotedName, frontOf, front, before, scan}
 use Rattle.grammar.specs.Nesting.{Open, Move, stays, broken, enters, becomes, leaves, move, closeInnermost, deepest, nesting}
@@ -36,6 +36,17 @@ pub between-andThen : {A B : Type 0} (low high : ℕ) (o : Outcome A) (f : A →
 unfolding andThen
 between-andThen low high (refused n p) f b c = b
 between-andThen low high (passed a) f b c = c a
+
+pub between-placed : {A : Type 0} (low high : ℕ) (f : ℕ → ℕ) (o : Outcome A) → Between low high o → Between low high (placed f o)
+unfolding placed
+between-placed low high f (refused n p) b = b
+between-placed low high f (passed a) b = tt
+
+-- Wider bounds hold too.
+pub between-wider :
+    {A : Type 0} (low high : ℕ) (o : Outcome A) (least most : ℕ) → least ≤ low → high ≤ most → Between low high o → Between least most o
+between-wider low high (refused n p) least most l h b = omega arith
+between-wider low high (passed a) least most l h b = tt
 
 -- What stands at the front of a text is refused by 2, 3 or 4.
 abbrev FrontBetween : Front → Type 0
@@ -80,7 +91,7 @@ scan-step nothing place rest b r = tt
 scan-step (wrong k) place rest b r = omega arith
 scan-step (taken t m) place rest b r = r t m
 
-scan-between : (room at : ℕ) (s : Bytes) → Between 2 5 (scan room at s)
+pub scan-between : (room at : ℕ) (s : Bytes) → Between 2 5 (scan room at s)
 unfolding scan
 scan-between zero at s = scan-step (front (drop (run isBlankByte s) s)) _ _ (front-between _) (λ t m. omega arith)
 scan-between (suc room) at s =
@@ -98,7 +109,7 @@ nesting-step os i t ts rest (enters o) e = rw (e, nesting) (choice (Between 6 7)
 nesting-step os i t ts rest (becomes o) e = rw (e, nesting) (rest (o ∷ closeInnermost os) (suc i))
 nesting-step os i t ts rest leaves e = rw (e, nesting) (rest (closeInnermost os) (suc i))
 
-nesting-between : (os : List Open) (i : ℕ) (ts : List Token) → Between 6 7 (nesting os i ts)
+pub nesting-between : (os : List Open) (i : ℕ) (ts : List Token) → Between 6 7 (nesting os i ts)
 unfolding nesting
 nesting-between [] i [] = tt
 nesting-between (o ∷ os) i [] = omega arith
@@ -143,7 +154,7 @@ module _ (inner : Table → ℕ → List Token → Outcome (Unit {0})) (bounded 
   checkItems-between T i (x ∷ xs) =
       between-andThen 8 10 (checkItem inner T i x) _ (checkItem-between T i x) (λ u. checkItems-between T (i + length (itemTokens x)) xs)
 
-blocks-between : (k : ℕ) (T : Table) (i : ℕ) (ts : List Token) → Between 8 10 (checkBlocks k T i ts)
+pub blocks-between : (k : ℕ) (T : Table) (i : ℕ) (ts : List Token) → Between 8 10 (checkBlocks k T i ts)
 unfolding checkBlocks
 blocks-between zero T i ts = tt
 blocks-between (suc k) T i ts = checkItems-between (checkBlocks k) (blocks-between k) T i (items ts)
