@@ -1,4 +1,4 @@
--- Recorded cases (shared/cases/base.hex with base.listing; their results come from an interpretation of document 01 written apart
+-- Recorded cases (their results come from an interpretation of document 01 written apart
 -- from this project): texts with what the program prints for them. Spread over the refusals that a text can give, overloaded
 -- blocks and plain rules.
 use mathlib.Core.List.{List, [], _∷_}

@@ -40,6 +40,7 @@ use Rattle.grammar.specs.Answer.{
   canonicalizeInto,
   canonicalize,
 }
+use Rattle.grammar.specs.Claim.{Proper}
 use Rattle.grammar.proofs.Logic.{and-left, and-right, and-intro}
 use Rattle.grammar.proofs.RefusalNumbers.{Between, between-andThen, between-placed, between-wider, scan-between, nesting-between, blocks-between}
 
@@ -88,13 +89,6 @@ words-length s (node l m r) i n =
 over-length : (w b : List ℕ) → length w ≤ length b → length (over w b) ≡ length b
 unfolding over
 over-length w b h = simp (length-append, length-drop) (omega arith)
-
--- A result of a service: a refusal has count 0 and leaves the buffer; the buffer keeps its length.
-pub record Proper (b : List ℕ) (most : ℕ) (r : Result) : Type 0 where
-  pub known : r .answer .number ≤ most
-  pub unchanged : (r .answer .number ≡ 0 → ⊥) → r .buffer ≡ b
-  pub nothingCounted : (r .answer .number ≡ 0 → ⊥) → r .answer .count ≡ 0
-  pub sameLength : length (r .buffer) ≡ length b
 
 rejection-proper : (b : List ℕ) (most n p : ℕ) → n ≤ most → Proper b most (record { answer = rejection n p; buffer = b })
 unfolding rejection
@@ -211,3 +205,17 @@ thirteen-exactly text b = (
   canonicalizeInto-thirteen b (readText text) (read-between text),
   λ h. rw (h .1) (rw (not-short b (readingText (h .0)) (h .2), writeInto)),
 )
+
+-- Canonicalizing never gives 12.
+canonicalizeInto-twelve : (b : List ℕ) (o : Outcome Reading) → Between 1 11 o → canonicalizeInto b o .answer .number ≡ 12 → ⊥
+unfolding canonicalizeInto writeInto rejection success
+canonicalizeInto-twelve b (refused n p) h e = omega arith
+canonicalizeInto-twelve b (passed r) h e = go (leb (length (readingText r)) (length b) && leb (length (readingText r)) longestText) refl
+  where
+    go : (t : Bool) → leb (length (readingText r)) (length b) && leb (length (readingText r)) longestText ≡ t → ⊥
+    go true q = let z : _≡_ {A = ℕ} 0 12 = rw (q, writeInto) at e in omega arith
+    go false q = let z : _≡_ {A = ℕ} 13 12 = rw (q, writeInto) at e in omega arith
+
+pub canonicalize-never-twelve : (text : Bytes) (b : List ℕ) → canonicalize text b .answer .number ≡ 12 → ⊥
+unfolding canonicalize
+canonicalize-never-twelve text b = canonicalizeInto-twelve b (readText text) (read-between text)

@@ -12,7 +12,7 @@ use Rattle.grammar.specs.Token.{Token, isNumber}
 use Rattle.grammar.specs.Spelling.{Spells}
 use Rattle.grammar.specs.Outcome.{refused, passed}
 use Rattle.grammar.specs.Scan.{Placed}
-use Rattle.grammar.specs.Operator.{Table, Conditions, lawfulTable}
+use Rattle.grammar.specs.Operator.{Table, Conditions, lawfulTable, Distinct}
 use Rattle.grammar.specs.Declaration.{start, declareAll, declarations, enter, value}
 use Rattle.grammar.specs.SpanTree.{SpanTree, Admitted, root, level, yield}
 use Rattle.grammar.specs.Tree.{Tree, IsTree}
@@ -21,16 +21,16 @@ use Rattle.grammar.specs.Nodes.{count, wordsPerNode}
 use Rattle.grammar.specs.Abstract.{Agree}
 use Rattle.grammar.specs.Canonical.{strip}
 use Rattle.grammar.specs.Answer.{Reading, Past, tokensOf, readText, read, canonicalize, rejection, readingText, longestText}
+use Rattle.grammar.specs.Claim.{Proper, FirstWithout, ReadsBack}
 use Rattle.grammar.proofs.Numbers.{value-strip, strip-equal}
-use Rattle.grammar.proofs.Operators.{Distinct}
 use Rattle.grammar.proofs.ConditionsTest.{conditions-start, conditions-sound, conditions-complete}
 use Rattle.grammar.proofs.Declarations.{enter-sound}
 use Rattle.grammar.proofs.Scanned.{scan-spelled}
 use Rattle.grammar.proofs.SpanRoot.{root-widest}
 use Rattle.grammar.proofs.TextTree.{tree-unique}
-use Rattle.grammar.proofs.Readings.{reading-tree, reading-only, tree-read, treeless-refused, refused-treeless, RefusedAt}
-use Rattle.grammar.proofs.RoundTrip.{reads-back, ReadsBack, same-text}
-use Rattle.grammar.proofs.Answers.{Proper, read-proper, canonicalize-proper, twelve-exactly, thirteen-exactly}
+use Rattle.grammar.proofs.Readings.{reading-tree, reading-only, tree-read, treeless-refused, refused-treeless}
+use Rattle.grammar.proofs.RoundTrip.{reads-back, same-text}
+use Rattle.grammar.proofs.Answers.{read-proper, canonicalize-proper, canonicalize-never-twelve, twelve-exactly, thirteen-exactly}
 
 -- Demand 1. Whatever bytes come in: a reading or a numbered refusal; a refusal has count 0 and changes nothing in the buffer.
 pub reading-answers : (text : Bytes) (table : List ℕ) → Proper table 12 (read text table)
@@ -38,6 +38,9 @@ reading-answers = read-proper
 
 pub canonical-answers : (text : Bytes) (buffer : List ℕ) → Proper buffer 13 (canonicalize text buffer)
 canonical-answers = canonicalize-proper
+
+pub canonical-never-twelve : (text : Bytes) (buffer : List ℕ) → canonicalize text buffer .answer .number ≡ 12 → ⊥
+canonical-never-twelve = canonicalize-never-twelve
 
 -- 12 and 13 are given exactly where there is a reading and the buffer, or 16,384 bytes, do not hold the result.
 pub twelve :
@@ -84,12 +87,12 @@ check-is-conditions T d = (conditions-sound T, conditions-complete T d)
 -- any tree of it is the one that is read.
 pub no-tree-refused :
     (text : Bytes) (ps : List Placed) → Past text ps → ((t : Tree) → IsTree start (tokensOf ps) t → ⊥)
-    → (p : ℕ) × (readText text ≡ refused 11 p) × RefusedAt text ps p
+    → (p : ℕ) × (readText text ≡ refused 11 p) × FirstWithout text ps p
 no-tree-refused = treeless-refused
 
 pub refused-no-tree :
     (text : Bytes) (p : ℕ) → readText text ≡ refused 11 p
-    → (ps : List Placed) × Past text ps × ((t : Tree) → IsTree start (tokensOf ps) t → ⊥) × RefusedAt text ps p
+    → (ps : List Placed) × Past text ps × ((t : Tree) → IsTree start (tokensOf ps) t → ⊥) × FirstWithout text ps p
 refused-no-tree = refused-treeless
 
 pub any-tree-read :

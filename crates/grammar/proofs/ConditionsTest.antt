@@ -7,6 +7,8 @@ use mathlib.Core.Option.{Option, none, some}
 use borrow.Author.Tests.{eqb-true, eq-eqb}
 use Rattle.grammar.specs.Bytes.{Bytes, same}
 use Rattle.grammar.specs.Operator.{
+  listed,
+  Distinct,
   Fixity,
   Prefix,
   Infix,
@@ -36,7 +38,7 @@ use Rattle.grammar.specs.Operator.{
 }
 use Rattle.grammar.specs.Declaration.{value, valueFrom, declare, declareAll, startDeclarations, start}
 use Rattle.grammar.proofs.Logic.{and-left, and-right, and-intro, clash, same-eq, same-refl}
-use Rattle.grammar.proofs.Operators.{both, listed, Distinct}
+use Rattle.grammar.proofs.Operators.{both}
 
 -- The parts of the test.
 record Parts (r : Roles) : Type 0 where

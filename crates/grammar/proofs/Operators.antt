@@ -12,6 +12,10 @@ use lib.Dec.{leb}
 use borrow.Author.Tests.{leb-true}
 use Rattle.grammar.specs.Bytes.{Bytes, same}
 use Rattle.grammar.specs.Operator.{
+  listed,
+  Each,
+  Distinct,
+  Alive,
   Fixity,
   Prefix,
   Infix,
@@ -181,24 +185,6 @@ positive-declared T (d ∷ ds) p e =
 pub positive-start : Positive start
 unfolding role start startDeclarations areDeclarations isDeclaration allowed isPrecedence value valueFrom
 positive-start = positive-declared [] startDeclarations (λ m f r e. let z : _≡_ {A = ℕ} 0 1 = cc in omega arith) refl
-
--- Some operator of the list has the name.
-unfoldable pub listed : Bytes → Table → Bool
-listed m [] = false
-listed m (o ∷ T) = elim (same m (o .name)) [ true ↦ true | false ↦ listed m T ]
-
--- A relation of every operator of the list to those behind it.
-abbrev pub Each : (Operator → Table → Type 0) → Table → Type 0
-Each Q [] = Unit {0}
-Each Q (o ∷ T) = Q o T × Each Q T
-
--- No two operators of the list have the same name.
-abbrev pub Distinct : Table → Type 0
-Distinct = Each (λ o T. listed (o .name) T ≡ false)
-
--- Every operator of the list has a role.
-abbrev pub Alive : Table → Type 0
-Alive = Each (λ o T. hasRole (o .roles) ≡ true)
 
 -- A relation that declarations keep: it holds of a new operator, of a changed one, and where another name changes behind it.
 record Kept (Q : Operator → Table → Type 0) : Type 0 where

@@ -3,7 +3,7 @@
 use mathlib.Core.Path.{_≡_, refl, sym, ap, ap₂, _∙_}
 use mathlib.Core.Logic.{_⊎_, inl, inr}
 use mathlib.Core.Bool.{Bool, true, false}
-use mathlib.Core.List.{List, [], _∷_, _++_}
+use mathlib.Core.List.{List, [], _∷_, _++_, List·Memᴰ, List·Memᴰ·head, Memᴰ·append-right}
 use mathlib.Core.Option.{Option, none, some}
 use Prim.Native.Nat.{ℕ, zero, suc, _+_, _≤_, _<_}
 use native.Mathlib.Omega.{arith}
@@ -34,9 +34,11 @@ use Rattle.grammar.specs.Answer.{
   longestText,
   mostTokens,
 }
+use Rattle.grammar.specs.Claim.{spansOf, HasNoTree, FirstWithout}
 use Rattle.grammar.proofs.Logic.{either, clash}
 use Rattle.grammar.proofs.Lists.{All, all-right}
-use Rattle.grammar.proofs.SpanSearch.{treeOfSpan-complete}
+use Rattle.grammar.proofs.SpanSearch.{treeOfSpan-sound, treeOfSpan-complete}
+use Rattle.grammar.proofs.SpanOrder.{first-by-start}
 use Rattle.grammar.proofs.ItemLists.{andThen-passed, andThen-refused}
 use Rattle.grammar.proofs.RefusalNumbers.{scan-number, nesting-number, blocks-number}
 use Rattle.grammar.proofs.ConditionsTest.{conditions-start}
@@ -44,8 +46,6 @@ use Rattle.grammar.proofs.Nested.{nesting-anywhere}
 use Rattle.grammar.proofs.TextTree.{treeOf-complete, tree-unique}
 use Rattle.grammar.proofs.TextSound.{Nested, treeIn-sound}
 use Rattle.grammar.proofs.Spans.{
-  HasTree,
-  FirstWithout,
   firstWithout-none,
   firstWithout-all,
   firstWithout-some,
@@ -54,10 +54,6 @@ use Rattle.grammar.proofs.Spans.{
   LawfulSpan,
   spans-lawful,
 }
-
--- The spans of a text.
-abbrev pub spansOf : List Placed → List Span
-spansOf ps = spans (suc (length ps)) start none 0 (tokensOf ps)
 
 pub length-tokens : (ps : List Placed) → length (tokensOf ps) ≡ length ps
 unfolding tokensOf
@@ -163,38 +159,49 @@ tree-read text ps h t i =
     let n = firstWithout-all (spansOf ps) (spans-have (suc (length ps)) (suc (length (tokensOf ps))) start none 0 (tokensOf ps) t e) in
     past-reads text ps h ∙ ap (readSpans text ps) n ∙ ap (found ps) e
 
+clashing : {A : Type 0} {o : Option A} {a : A} → o ≡ some a → o ≡ none → _≡_ {A = ℕ} 0 1
+clashing e f = cc
+
 -- A text past checks 1 to 10 that has no tree is refused with 11, at the first of its spans that has none.
-pub record RefusedAt (text : Bytes) (ps : List Placed) (p : ℕ) : Type 0 where
-  pub opener : Option ℕ
-  pub first : FirstWithout (spansOf ps) opener
-  pub treeless : (s : SpanTree) → IsSpanTree (first .span .table) (first .span .contents) s → ⊥
-  pub offset : p ≡ spanOffset text ps opener
+span-among : (ss xs ys : List Span) (s : Span) → ss ≡ xs ++ s ∷ ys → List·Memᴰ s ss
+span-among ss xs ys s e = rw e (Memᴰ·append-right xs (List·Memᴰ·head refl))
+
+not-found : (s : Span) → HasNoTree s → treeOfSpan (s .table) (s .contents) ≡ none
+not-found s h = go (treeOfSpan (s .table) (s .contents)) refl
+  where
+    go : (o : Option SpanTree) → treeOfSpan (s .table) (s .contents) ≡ o → treeOfSpan (s .table) (s .contents) ≡ none
+    go none e = e
+    go (some t) e = absurd (h t (treeOfSpan-sound (s .table) (s .contents) t e))
 
 refusal-at :
     (text : Bytes) (ps : List Placed) → Past text ps → (o : Option ℕ) → firstWithout (spansOf ps) ≡ some o
-    → RefusedAt text ps (spanOffset text ps o)
+    → FirstWithout text ps (spanOffset text ps o)
 refusal-at text ps h o e =
     let f = firstWithout-some (spansOf ps) o e in
     let l =
     spans-lawful (suc (length ps)) (suc (length ps)) start none 0 0 (tokensOf ps) conditions-start (nested-tokens text ps h)
     (rw (length-tokens ps) (omega arith)) (h .declared) in
     let k : Conditions (f .span .table) = (all-right LawfulSpan (f .before) (f .span ∷ f .after) (rw (f .cut) at l)) .0 in
+    let q : f .span .opener ≡ o = f .opened in
     record {
-      opener = o;
-      first = f;
+      span = f .span;
+      among = span-among (spansOf ps) (f .before) (f .after) (f .span) (f .cut);
       treeless =
-          λ s i. let q = treeOfSpan-complete (f .span .table) k (f .span .contents) s i in
-          let w = f .without in let z : _≡_ {A = ℕ} 0 1 = cc in omega arith;
-      offset = refl;
+          λ s i.
+          let w = treeOfSpan-complete (f .span .table) k (f .span .contents) s i in
+          let z : _≡_ {A = ℕ} 0 1 = clashing w (f .without) in
+          omega arith;
+      first = λ s m n. rw q (first-by-start (suc (length ps)) start (tokensOf ps) (h .nested) o e s m (not-found s n));
+      offset = ap (spanOffset text ps) (sym q);
     }
 
 pub treeless-refused :
     (text : Bytes) (ps : List Placed) → Past text ps → ((t : Tree) → IsTree start (tokensOf ps) t → ⊥)
-    → (p : ℕ) × (readText text ≡ refused 11 p) × RefusedAt text ps p
+    → (p : ℕ) × (readText text ≡ refused 11 p) × FirstWithout text ps p
 unfolding readSpans
 treeless-refused text ps h never = go (firstWithout (spansOf ps)) refl
   where
-    go : (o : Option (Option ℕ)) → firstWithout (spansOf ps) ≡ o → (p : ℕ) × (readText text ≡ refused 11 p) × RefusedAt text ps p
+    go : (o : Option (Option ℕ)) → firstWithout (spansOf ps) ≡ o → (p : ℕ) × (readText text ≡ refused 11 p) × FirstWithout text ps p
     go none e =
         let n : length (tokensOf ps) < suc (length ps) = rw (length-tokens ps) (omega arith) in
         let t =
@@ -266,7 +273,7 @@ refused-place d e = cc
 -- A text refused with 11 has no tree, and the place is that of its first span without one.
 pub refused-treeless :
     (text : Bytes) (p : ℕ) → readText text ≡ refused 11 p
-    → (ps : List Placed) × Past text ps × ((t : Tree) → IsTree start (tokensOf ps) t → ⊥) × RefusedAt text ps p
+    → (ps : List Placed) × Past text ps × ((t : Tree) → IsTree start (tokensOf ps) t → ⊥) × FirstWithout text ps p
 refused-treeless text p e =
     let h = eleven-past text p e in
     let ps = h .0 in

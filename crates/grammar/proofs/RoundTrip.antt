@@ -18,6 +18,7 @@ use Rattle.grammar.specs.Blocks.{checkBlocks}
 use Rattle.grammar.specs.Abstract.{abstract, Agree}
 use Rattle.grammar.specs.Canonical.{canonical, canonicalText, joinTokens, NoSpare}
 use Rattle.grammar.specs.Answer.{Reading, Past, tokensOf, readText, readingText, longestText, mostTokens}
+use Rattle.grammar.specs.Claim.{ReadsBack}
 use Rattle.grammar.proofs.Plain.{Plain}
 use Rattle.grammar.proofs.Items.{plain-tree}
 use Rattle.grammar.proofs.Nested.{nesting-flat, nesting-depth}
@@ -100,13 +101,6 @@ canonical-past text r e n =
     )
 
 -- It is read, to the canonical tree: that agrees with the old one, and no bracket of it is spare.
-pub record ReadsBack (r q : Reading) : Type 0 where
-  pub tree : q .tree ≡ canonical start (r .tree)
-  pub agrees : Agree (q .tree) (r .tree)
-  pub tight : NoSpare start false (q .tree)
-  pub fewer : length (q .tokens) ≤ length (r .tokens)
-  pub shallower : depth (q .tree) ≤ depth (r .tree)
-
 pub reads-back :
     (text : Bytes) (r : Reading) → readText text ≡ passed r → length (readingText r) ≤ longestText
     → (q : Reading) × (readText (readingText r) ≡ passed q) × ReadsBack r q

@@ -15,12 +15,8 @@ use Rattle.grammar.specs.Span.{Item, single, pair, scope, itemTokens, it
 use Rattle.grammar.specs.SpanTree.{SpanTree}
 use Rattle.grammar.specs.Search.{treeOfSpan}
 use Rattle.grammar.specs.Blocks.{bodyTable, Span, itemSpans, allItemSpans, spans, firstWithout}
+use Rattle.grammar.specs.Claim.{startOf}
 use Rattle.grammar.proofs.ItemsNested.{allItemTokens, ItemNested, AllNested, items-tokens, items-nested}
-
--- Where a span starts, by its opener: the whole text at token 0, another one behind its opener.
-abbrev pub startOf : Option ℕ → ℕ
-startOf none = 0
-startOf (some i) = suc i
 
 -- The starts ascend: the first is `low` or more, each further one is higher than the one before it, and all are below `high`.
 abbrev pub Ascending : ℕ → ℕ → List Span → Type 0

@@ -176,7 +176,7 @@ spans-hang (suc k) T o i ts n b h =
     (f .0, ap (hangFound (treeIn k) T) q ∙ f .1)
 
 -- The first span without a tree: those before it have one.
-pub record FirstWithout (ss : List Span) (o : Option ℕ) : Type 0 where
+pub record Treeless (ss : List Span) (o : Option ℕ) : Type 0 where
   pub before : List Span
   pub span : Span
   pub after : List Span
@@ -186,8 +186,8 @@ pub record FirstWithout (ss : List Span) (o : Option ℕ) : Type 0 where
   pub without : treeOfSpan (span .table) (span .contents) ≡ none
 
 without-some :
-    (s : Span) (ss : List Span) (o : Option ℕ) → (firstWithout ss ≡ some o → FirstWithout ss o)
-    → (f : Option SpanTree) → treeOfSpan (s .table) (s .contents) ≡ f → firstWithout (s ∷ ss) ≡ some o → FirstWithout (s ∷ ss) o
+    (s : Span) (ss : List Span) (o : Option ℕ) → (firstWithout ss ≡ some o → Treeless ss o)
+    → (f : Option SpanTree) → treeOfSpan (s .table) (s .contents) ≡ f → firstWithout (s ∷ ss) ≡ some o → Treeless (s ∷ ss) o
 unfolding firstWithout
 without-some s ss o h none q e =
     let f : some (s .opener) ≡ some o = rw (q, firstWithout) at e in
@@ -204,7 +204,7 @@ without-some s ss o h (some t) q e =
       without = g .without;
     }
 
-pub firstWithout-some : (ss : List Span) (o : Option ℕ) → firstWithout ss ≡ some o → FirstWithout ss o
+pub firstWithout-some : (ss : List Span) (o : Option ℕ) → firstWithout ss ≡ some o → Treeless ss o
 unfolding firstWithout
 firstWithout-some [] o e = let z : _≡_ {A = ℕ} 0 1 = cc in absurd (omega arith)
 firstWithout-some (s ∷ ss) o e = without-some s ss o (firstWithout-some ss o) (treeOfSpan (s .table) (s .contents)) refl e

@@ -15,4 +15,6 @@ pub mod Nodes
 pub mod Abstract
 pub mod Canonical
 pub mod Answer
+pub mod Claim
 pub mod Listing
+pub mod Coded

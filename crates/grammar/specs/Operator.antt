@@ -152,3 +152,20 @@ lawful r =
 unfoldable pub lawfulTable : Table → Bool
 lawfulTable [] = true
 lawfulTable (o ∷ T) = elim (lawful (o .roles)) [ true ↦ lawfulTable T | false ↦ false ]
+
+-- An operator of that name is listed.
+unfoldable pub listed : Bytes → Table → Bool
+listed m [] = false
+listed m (o ∷ T) = elim (same m (o .name)) [ true ↦ true | false ↦ listed m T ]
+
+-- What holds of each operator and those behind it.
+abbrev pub Each : (Operator → Table → Type 0) → Table → Type 0
+Each Q [] = Unit {0}
+Each Q (o ∷ T) = Q o T × Each Q T
+
+-- No two operators have one name, and each has a role: so the operators in force are as many as the list is long.
+abbrev pub Distinct : Table → Type 0
+Distinct = Each (λ o T. listed (o .name) T ≡ false)
+
+abbrev pub Alive : Table → Type 0
+Alive = Each (λ o T. hasRole (o .roles) ≡ true)

@@ -1,0 +1,53 @@
+-- What the claims speak of, besides the definitions of the other files.
+use mathlib.Core.Path.{_≡_}
+use mathlib.Core.Bool.{false}
+use mathlib.Core.List.{List, List·Memᴰ}
+use mathlib.Core.Option.{Option, none, some}
+use Prim.Native.Nat.{ℕ, suc, _≤_}
+use lib.ListN.{length}
+use Rattle.grammar.specs.Bytes.{Bytes}
+use Rattle.grammar.specs.Scan.{Placed}
+use Rattle.grammar.specs.Declaration.{start}
+use Rattle.grammar.specs.SpanTree.{SpanTree, IsSpanTree}
+use Rattle.grammar.specs.Tree.{depth}
+use Rattle.grammar.specs.Blocks.{Span, spans}
+use Rattle.grammar.specs.Abstract.{Agree}
+use Rattle.grammar.specs.Canonical.{canonical, NoSpare}
+use Rattle.grammar.specs.Answer.{Reading, Result, tokensOf, spanOffset}
+
+-- The result of a service over the buffer `b`: its number is at most `most`; a refusal has count 0 and changes nothing in the
+-- buffer; the buffer keeps its length.
+pub record Proper (b : List ℕ) (most : ℕ) (r : Result) : Type 0 where
+  pub known : r .answer .number ≤ most
+  pub unchanged : (r .answer .number ≡ 0 → ⊥) → r .buffer ≡ b
+  pub nothingCounted : (r .answer .number ≡ 0 → ⊥) → r .answer .count ≡ 0
+  pub sameLength : length (r .buffer) ≡ length b
+
+-- The spans of a text, and where a span starts: the whole text at token 0, another one behind its opener.
+abbrev pub spansOf : List Placed → List Span
+spansOf ps = spans (suc (length ps)) start none 0 (tokensOf ps)
+
+abbrev pub startOf : Option ℕ → ℕ
+startOf none = 0
+startOf (some i) = suc i
+
+-- A span without a tree.
+abbrev pub HasNoTree : Span → Type 0
+HasNoTree s = (t : SpanTree) → IsSpanTree (s .table) (s .contents) t → ⊥
+
+-- `p` is the place of the first span of the text, by its start, that has no tree: "11 for the first span by its start".
+pub record FirstWithout (text : Bytes) (ps : List Placed) (p : ℕ) : Type 0 where
+  pub span : Span
+  pub among : List·Memᴰ span (spansOf ps)
+  pub treeless : HasNoTree span
+  pub first : (s : Span) → List·Memᴰ s (spansOf ps) → HasNoTree s → startOf (span .opener) ≤ startOf (s .opener)
+  pub offset : p ≡ spanOffset text ps (span .opener)
+
+-- `q` is what the canonical text of `r` reads back to: the canonical tree, which agrees with the old one; no bracket of it is
+-- spare; it has no more tokens and no greater depth.
+pub record ReadsBack (r q : Reading) : Type 0 where
+  pub tree : q .tree ≡ canonical start (r .tree)
+  pub agrees : Agree (q .tree) (r .tree)
+  pub tight : NoSpare start false (q .tree)
+  pub fewer : length (q .tokens) ≤ length (r .tokens)
+  pub shallower : depth (q .tree) ≤ depth (r .tree)
