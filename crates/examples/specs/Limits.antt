@@ -74,6 +74,27 @@ limits =
     ∷ success (bytes "123456789") 1 9
     ∷ refusal (bytes "1234567890") 4 0
     ∷ refusal (bytes "''") 3 0
+    -- Every sign begins a token, and byte 11 none.
+    ∷ success (bytes "+-*/<>=!&|^~:?@#$%") 1 18
+    ∷ success (bytes "& = ~ and @ = $ and % = ^") 11 25
+    ∷ refusal (97 ∷ 11 ∷ []) 2 1
+    -- Sides that a fixity does not have.
+    ∷ refusal (bytes "let postfix right 400 s ; in a end") 8 12
+    ∷ refusal (bytes "let prefix left 400 s ; in a end") 8 11
+    -- Structure is judged before depth.
+    ∷ refusal (repeated 31 (bytes "(") ++ bytes "let (") 6 35
+    ∷ refusal (repeated 32 (bytes "(") ++ bytes "let (") 7 32
+    -- `;` outside declarations, a second `in`, a closer that does not match.
+    ∷ refusal (bytes "a ; b") 6 2
+    ∷ refusal (bytes "let in a in b end") 6 9
+    ∷ refusal (bytes "( a end") 6 4
+    ∷ refusal (bytes "let ( in a end") 6 4
+    -- An operator behind its block's `end` is none.
+    ∷ refusal (bytes "let infix left 400 x ; in a x b end x c") 11 0
+    -- The four conditions are judged at `in`, not after each declaration; the first one is broken by two precedences.
+    ∷ success (bytes "let infix left 300 - ; prefix non 300 - ; in a end") 2 50
+    ∷ refusal (bytes "let infix left 300 - ; in a end") 10 23
+    ∷ refusal (bytes "3a") 11 0
     -- Lent buffers just long enough, and one word or byte short.
     ∷ record { text = bytes "a"; words = 5; room = 1; reading = answer 0 0 1; canonicalizing = answer 0 0 1 }
     ∷ record { text = bytes "a"; words = 4; room = 0; reading = answer 12 0 0; canonicalizing = answer 13 0 0 }

@@ -62,5 +62,6 @@ abstract (node l m r) = operation (abstract l) m (abstract r)
 
 -- "Trees agree if their kinds and children do, names by characters, numbers by value, marks by bytes; declarations agree token by
 -- token, levels by value. .. Each block's declarations are held against those of the block in the same position of the other tree."
+-- Of two trees with their brackets removed.
 abbrev pub Agree : Tree → Tree → Type 0
 Agree t u = abstract t ≡ abstract u

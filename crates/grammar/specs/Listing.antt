@@ -55,3 +55,7 @@ listingOf r c =
 -- The listing of a text, with buffers of `w` words and `b` bytes.
 unfoldable pub listing : ℕ → ℕ → Bytes → Bytes
 listing w b text = listingOf (read text (replicate w 0)) (canonicalize text (replicate b 0))
+
+-- What the program prints for a text: its buffers hold the nodes and the canonical text of any text.
+unfoldable pub printed : Bytes → Bytes
+printed text = listing (wordsPerNode * mostTokens) longestText text

@@ -56,6 +56,7 @@ InnerOk T (block ds t) =
     (areDeclarations ds ≡ true) × Conditions (declareAll T ds) × SpanOk (declareAll T ds) t × InnerOk (declareAll T ds) t
 InnerOk T (node l m r) = InnerOk T l × InnerOk T r
 
+-- A block's declarations are allowed ones and its operators meet the four conditions: of a text past checks 1 to 10 that holds.
 -- `t` is a tree of the tokens `ts` under the operators `T`. "Two trees of a text are the same if at every node they have the
 -- same kind over the same tokens": two trees of the same tokens are the same where they are equal.
 pub record IsTree (T : Table) (ts : List Token) (t : Tree) : Type 0 where
