@@ -21,11 +21,12 @@ use Rattle.grammar.specs.Nodes.{count, wordsPerNode}
 use Rattle.grammar.specs.Abstract.{Agree}
 use Rattle.grammar.specs.Canonical.{strip}
 use Rattle.grammar.specs.Answer.{Reading, Past, tokensOf, readText, read, canonicalize, rejection, readingText, longestText}
-use Rattle.grammar.specs.Claim.{Proper, FirstWithout, ReadsBack}
+use Rattle.grammar.specs.Claim.{AllStand, Proper, FirstWithout, ReadsBack}
 use Rattle.grammar.proofs.Numbers.{value-strip, strip-equal}
 use Rattle.grammar.proofs.ConditionsTest.{conditions-start, conditions-sound, conditions-complete}
 use Rattle.grammar.proofs.Declarations.{enter-sound}
 use Rattle.grammar.proofs.Scanned.{scan-spelled}
+use Rattle.grammar.proofs.Offsets.{scanned-stand}
 use Rattle.grammar.proofs.SpanRoot.{root-widest}
 use Rattle.grammar.proofs.TextTree.{tree-unique}
 use Rattle.grammar.proofs.Readings.{reading-tree, reading-only, tree-read, treeless-refused, refused-treeless}
@@ -61,6 +62,9 @@ reading-is-tree = reading-tree
 
 pub own-tokens : (text : Bytes) (ps : List Placed) → Past text ps → Spells text (tokensOf ps)
 own-tokens text ps h = scan-spelled _ 0 text ps (h .scanned)
+
+pub at-their-offsets : (text : Bytes) (ps : List Placed) → Past text ps → AllStand text ps
+at-their-offsets text ps h = scanned-stand _ text ps (h .scanned)
 
 -- The canonical text reads back to the same tree without its spare brackets.
 pub canonical-reads-back :

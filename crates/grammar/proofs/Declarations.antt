@@ -237,7 +237,7 @@ declaration-sound (t ∷ ts) d rest h =
     rw (token-wanted t .0 w p) (first-sound w ts q)
 
 -- Reading all declarations, one step.
-tokens-shorter : (d : Declaration) (rest : List Token) → length rest < length (declarationTokens d ++ rest)
+pub tokens-shorter : (d : Declaration) (rest : List Token) → length rest < length (declarationTokens d ++ rest)
 unfolding declarationTokens
 tokens-shorter (declares f a c m) rest = omega arith
 tokens-shorter (clears m) rest = omega arith
@@ -249,7 +249,7 @@ unfolding declarationsOf declaration
 declarations-step k [] h = absurd (no-parse h)
 declarations-step k (t ∷ ts) h = rw (h, declarationsOf) refl
 
-declarations-first :
+pub declarations-first :
     (d : Declaration) (ds : List Declaration) → areDeclarations (d ∷ ds) ≡ true → (isDeclaration d ≡ true) × (areDeclarations ds ≡ true)
 unfolding areDeclarations
 declarations-first d ds e = tested (λ f. true≢false (sym f)) (isDeclaration d) e λ p q. (p, q)
@@ -280,7 +280,7 @@ unfolding checkedAt
 checked-anywhere i j T U e = tested no-pass (lawfulTable T) e λ p q. rw (p, checkedAt) q
 
 -- Checks 8 to 10 at the end of the tokens, and one declaration further.
-enter-end : (k : ℕ) (T : Table) (i : ℕ) → enter k T i [] ≡ checkedAt i T
+pub enter-end : (k : ℕ) (T : Table) (i : ℕ) → enter k T i [] ≡ checkedAt i T
 unfolding enter
 enter-end zero T i = refl
 enter-end (suc k) T i = refl
@@ -291,7 +291,7 @@ unfolding enter declarationTokens
 enter-unfed T i (declares f a c m) rest U e = no-pass e
 enter-unfed T i (clears m) rest U e = no-pass e
 
-enter-step :
+pub enter-step :
     (k : ℕ) (T : Table) (i : ℕ) (ts : List Token) {d : Declaration} {rest : List Token} → declaration ts ≡ parsed d rest
     → enter (suc k) T i ts
     ≡ elim (leb (length (declare T d)) mostOperators) [

@@ -5,11 +5,13 @@ pub mod Plain
 pub mod Runs
 pub mod Taken
 pub mod Scanned
+pub mod Offsets
 pub mod SpanRoot
 pub mod SpanFound
 pub mod SpanSearch
 pub mod Numbers
 pub mod Declarations
+pub mod EnterComplete
 pub mod StripDeclarations
 pub mod Operators
 pub mod ConditionsTest

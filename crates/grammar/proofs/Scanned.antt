@@ -74,7 +74,7 @@ scan-next
 unfolding scan
 scan-next room at s t m e = rw (e, scan)
 
-refused-not-passed : {A : Type 0} {o : Outcome A} {k a : ℕ} {v : A} → o ≡ refused k a → o ≡ passed v → ⊥
+pub refused-not-passed : {A : Type 0} {o : Outcome A} {k a : ℕ} {v : A} → o ≡ refused k a → o ≡ passed v → ⊥
 refused-not-passed e h = let z : _≡_ {A = ℕ} 0 1 = cc in omega arith
 
 -- No token goes on with a space.

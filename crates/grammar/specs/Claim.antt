@@ -1,11 +1,12 @@
 -- What the claims speak of, besides the definitions of the other files.
 use mathlib.Core.Path.{_≡_}
 use mathlib.Core.Bool.{false}
-use mathlib.Core.List.{List, List·Memᴰ}
+use mathlib.Core.List.{List, [], _∷_, _++_, List·Memᴰ}
 use mathlib.Core.Option.{Option, none, some}
 use Prim.Native.Nat.{ℕ, suc, _≤_}
-use lib.ListN.{length}
+use lib.ListN.{length, drop}
 use Rattle.grammar.specs.Bytes.{Bytes}
+use Rattle.grammar.specs.Token.{spelling}
 use Rattle.grammar.specs.Scan.{Placed}
 use Rattle.grammar.specs.Declaration.{start}
 use Rattle.grammar.specs.SpanTree.{SpanTree, IsSpanTree}
@@ -14,6 +15,11 @@ use Rattle.grammar.specs.Blocks.{Span, spans}
 use Rattle.grammar.specs.Abstract.{Agree}
 use Rattle.grammar.specs.Canonical.{canonical, NoSpare}
 use Rattle.grammar.specs.Answer.{Reading, Result, tokensOf, spanOffset}
+
+-- Each token stands in the text at its offset.
+abbrev pub AllStand : Bytes → List Placed → Type 0
+AllStand text [] = Unit {0}
+AllStand text (p ∷ ps) = ((rest : Bytes) × (drop (p .start) text ≡ spelling (p .token) ++ rest)) × AllStand text ps
 
 -- The result of a service over the buffer `b`: its number is at most `most`; a refusal has count 0 and changes nothing in the
 -- buffer; the buffer keeps its length.

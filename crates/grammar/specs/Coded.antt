@@ -1,11 +1,37 @@
--- Tokens as numbers: a kind, an offset and a length, over a text.
+-- Tokens and roles as numbers, as the code holds them.
 use mathlib.Core.Bool.{Bool, true, false}
 use mathlib.Core.List.{List, [], _∷_}
-use Prim.Native.Nat.{ℕ, zero, suc, _+_, _-_}
+use mathlib.Core.Option.{Option, none, some}
+use Prim.Native.Nat.{ℕ, zero, suc, _+_, _-_, _*_, _/_, _%_}
 use lib.Dec.{eqb}
-use lib.ListN.{take, drop, getD}
+use lib.ListN.{length, take, drop, getD}
 use Rattle.grammar.specs.Bytes.{Bytes}
-use Rattle.grammar.specs.Token.{Token, symbol, number, quoted, opening, closing, semicolon, keywordLet, keywordIn, keywordEnd}
+use Rattle.grammar.specs.Token.{
+  Token,
+  symbol,
+  number,
+  quoted,
+  opening,
+  closing,
+  semicolon,
+  keywordLet,
+  keywordIn,
+  keywordEnd,
+  spelling,
+}
+use Rattle.grammar.specs.Scan.{Placed}
+use Rattle.grammar.specs.Operator.{
+  Fixity,
+  Prefix,
+  Infix,
+  Postfix,
+  Associativity,
+  left,
+  right,
+  non,
+  Role,
+  Roles,
+}
 
 -- The number of a token's kind.
 unfoldable pub kindOf : Token → ℕ
@@ -65,3 +91,44 @@ tokenAt text K S Z i = tokenOf (getD K i 0) (charactersIn text (getD K i 0) (get
 unfoldable pub tokensFrom : Bytes → List ℕ → List ℕ → List ℕ → ℕ → ℕ → List Token
 tokensFrom text K S Z i zero = []
 tokensFrom text K S Z i (suc n) = tokenAt text K S Z i ∷ tokensFrom text K S Z (suc i) n
+
+-- A token's kind, offset and length, as the arrays hold them.
+abbrev pub kindAt : Placed → ℕ
+kindAt p = kindOf (p .token)
+
+abbrev pub startAt : Placed → ℕ
+startAt p = p .start
+
+abbrev pub sizeAt : Placed → ℕ
+sizeAt p = length (spelling (p .token))
+
+-- Fixities as numbers: 1 infix, 2 prefix, 3 (or any other) postfix.
+unfoldable pub fixityCode : Fixity → ℕ
+fixityCode Infix = 1
+fixityCode Prefix = 2
+fixityCode Postfix = 3
+
+unfoldable pub fixityOf : ℕ → Fixity
+fixityOf f = elim (eqb f 1) [ true ↦ Infix | false ↦ elim (eqb f 2) [ true ↦ Prefix | false ↦ Postfix ] ]
+
+-- Associativities and roles as numbers: 0 for no role, else four times the precedence plus 1, 2 or 3.
+unfoldable pub associativityCode : Associativity → ℕ
+associativityCode left = 1
+associativityCode right = 2
+associativityCode non = 3
+
+unfoldable pub associativityOf : ℕ → Associativity
+associativityOf n = elim (eqb n 1) [ true ↦ left | false ↦ elim (eqb n 2) [ true ↦ right | false ↦ non ] ]
+
+unfoldable pub roleCode : Option Role → ℕ
+roleCode none = 0
+roleCode (some r) = r .precedence * 4 + associativityCode (r .associativity)
+
+unfoldable pub roleOf : ℕ → Option Role
+roleOf c = elim (eqb c 0) [ true ↦ none | false ↦ some (record { precedence = c / 4; associativity = associativityOf (c % 4) }) ]
+
+-- The roles of an operator by their numbers: prefix, infix, postfix.
+unfoldable pub rolesOf : ℕ → ℕ → ℕ → Roles
+rolesOf p i q Prefix = roleOf p
+rolesOf p i q Infix = roleOf i
+rolesOf p i q Postfix = roleOf q

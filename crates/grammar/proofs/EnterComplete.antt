@@ -1,0 +1,156 @@
+-- Checks 8 to 10 refuse nothing that they should pass, and refuse where they should: each declaration that fits is read and takes
+-- effect, so the answer in front of declarations is the answer behind them, and that is one step.
+use mathlib.Core.Path.{_≡_, refl, sym, ap, _∙_}
+use mathlib.Core.Bool.{Bool, true, false, true≢false}
+use mathlib.Core.List.{List, [], _∷_, _++_, append-assoc, append-nil}
+use Prim.Native.Nat.{ℕ, zero, suc, _+_, _≤_, _<_}
+use native.Mathlib.Omega.{arith}
+use lib.Dec.{leb}
+use lib.ListN.{length, length-append}
+use borrow.Author.Tests.{le-leb, lt-leb}
+use Rattle.grammar.specs.Token.{Token}
+use Rattle.grammar.specs.Operator.{Table, lawfulTable}
+use Rattle.grammar.specs.Outcome.{refused, passed}
+use Rattle.grammar.specs.Declaration.{
+  Declaration,
+  declares,
+  clears,
+  declare,
+  declareAll,
+  declarationTokens,
+  allTokens,
+  isDeclaration,
+  areDeclarations,
+  Parsed,
+  unfit,
+  parsed,
+  declaration,
+  operatorPlace,
+  mostOperators,
+  checkedAt,
+  enter,
+}
+use Rattle.grammar.proofs.Declarations.{declaration-of, declaration-sound, tokens-shorter, declarations-first, enter-end, enter-step}
+
+-- Every table on the way has room for its operators.
+abbrev pub Fits : Table → List Declaration → Type 0
+Fits T [] = Unit {0}
+Fits T (d ∷ ds) = (length (declare T d) ≤ mostOperators) × Fits (declare T d) ds
+
+-- What is parsed leaves fewer tokens.
+parsed-shorter :
+    (ts : List Token) (d : Declaration) (rest : List Token) → declaration ts ≡ parsed d rest → length rest < length ts
+parsed-shorter ts d rest e = rw (declaration-sound ts d rest e .0) (tokens-shorter d rest)
+
+-- One step of the checks at tokens that do not fit.
+enter-unfit :
+    (k : ℕ) (T : Table) (i : ℕ) (ts : List Token) (n : ℕ) → 0 < length ts → length ts ≤ k → declaration ts ≡ unfit n
+    → enter k T i ts ≡ refused 8 (i + n)
+unfolding enter
+enter-unfit k T i [] n h l e = absurd (omega arith)
+enter-unfit zero T i (t ∷ ts) n h l e = absurd (omega arith)
+enter-unfit (suc k) T i (t ∷ ts) n h l e = rw (e, enter) refl
+
+-- Any fuel that is no less than the tokens is enough.
+pub enter-fuel : (k l : ℕ) (T : Table) (i : ℕ) (ts : List Token) → length ts ≤ k → length ts ≤ l → enter k T i ts ≡ enter l T i ts
+enter-fuel zero l T i [] h g = enter-end zero T i ∙ sym (enter-end l T i)
+enter-fuel (suc k) l T i [] h g = enter-end (suc k) T i ∙ sym (enter-end l T i)
+enter-fuel zero l T i (t ∷ ts) h g = absurd (omega arith)
+enter-fuel (suc k) zero T i (t ∷ ts) h g = absurd (omega arith)
+enter-fuel (suc k) (suc l) T i (t ∷ ts) h g = go (declaration (t ∷ ts)) refl (enter-fuel k l)
+  where
+    go :
+        (p : Parsed) → declaration (t ∷ ts) ≡ p
+        → ((T : Table) (i : ℕ) (ts : List Token) → length ts ≤ k → length ts ≤ l → enter k T i ts ≡ enter l T i ts)
+        → enter (suc k) T i (t ∷ ts) ≡ enter (suc l) T i (t ∷ ts)
+    go (unfit n) e ih = enter-unfit (suc k) T i (t ∷ ts) n (omega arith) h e ∙ sym (enter-unfit (suc l) T i (t ∷ ts) n (omega arith) g e)
+    go (parsed d rest) e ih =
+        let s : length rest < length (t ∷ ts) = parsed-shorter (t ∷ ts) d rest e in
+        enter-step k T i (t ∷ ts) e
+        ∙ ap
+        (λ o. elim (leb (length (declare T d)) mostOperators) [ true ↦ o | false ↦ refused 9 (i + operatorPlace d) ])
+        (ih (declare T d) (i + length (declarationTokens d)) rest (omega arith) (omega arith))
+        ∙ sym (enter-step l T i (t ∷ ts) e)
+
+-- A declaration that fits takes effect; one too many is refused.
+enter-fitting :
+    (k : ℕ) (T : Table) (i : ℕ) (ts : List Token) (d : Declaration) (rest : List Token) → declaration ts ≡ parsed d rest
+    → length (declare T d) ≤ mostOperators
+    → enter (suc k) T i ts ≡ enter k (declare T d) (i + length (declarationTokens d)) rest
+enter-fitting k T i ts d rest e h = rw (enter-step k T i ts e, le-leb _ _ h) refl
+
+enter-overfull :
+    (k : ℕ) (T : Table) (i : ℕ) (ts : List Token) (d : Declaration) (rest : List Token) → length ts ≤ k
+    → declaration ts ≡ parsed d rest → mostOperators < length (declare T d) → enter k T i ts ≡ refused 9 (i + operatorPlace d)
+enter-overfull zero T i ts d rest h e g = absurd (omega (arith, parsed-shorter ts d rest e))
+enter-overfull (suc k) T i ts d rest h e g = rw (enter-step k T i ts e, lt-leb _ _ g) refl
+
+-- The first of declarations is read first.
+first-parsed :
+    (d : Declaration) (ds : List Declaration) (rest : List Token) → isDeclaration d ≡ true
+    → declaration (allTokens (d ∷ ds) ++ rest) ≡ parsed d (allTokens ds ++ rest)
+unfolding allTokens
+first-parsed d ds rest e =
+    ap declaration (append-assoc (declarationTokens d) (allTokens ds) rest) ∙ declaration-of d (allTokens ds ++ rest) e
+
+-- The answer in front of declarations that fit is the answer behind them.
+pub enter-behind :
+    (k : ℕ) (T : Table) (i : ℕ) (ds : List Declaration) (rest : List Token) → areDeclarations ds ≡ true → Fits T ds
+    → length (allTokens ds ++ rest) ≤ k
+    → enter k T i (allTokens ds ++ rest) ≡ enter k (declareAll T ds) (i + length (allTokens ds)) rest
+unfolding allTokens declareAll
+enter-behind k T i [] rest a f h = ap (λ j. enter k T j rest) (omega arith)
+enter-behind zero T i (d ∷ ds) rest a f h =
+    let (p, q) = declarations-first d ds a in
+    absurd (omega (arith, parsed-shorter (allTokens (d ∷ ds) ++ rest) d (allTokens ds ++ rest) (first-parsed d ds rest p)))
+enter-behind (suc k) T i (d ∷ ds) rest a f h =
+    let (p, q) = declarations-first d ds a in
+    let e = first-parsed d ds rest p in
+    let s : length (allTokens ds ++ rest) ≤ k = omega (arith, parsed-shorter (allTokens (d ∷ ds) ++ rest) d (allTokens ds ++ rest) e) in
+    let l : length rest ≤ k = omega (arith, length-append (allTokens ds) rest) in
+    enter-fitting k T i (allTokens (d ∷ ds) ++ rest) d (allTokens ds ++ rest) e (f .0)
+    ∙ enter-behind k (declare T d) (i + length (declarationTokens d)) ds rest q (f .1) s
+    ∙ enter-fuel k (suc k) (declareAll T (d ∷ ds)) _ rest l (omega arith)
+    ∙ ap (λ j. enter (suc k) (declareAll T (d ∷ ds)) j rest) (omega (arith, length-append (declarationTokens d) (allTokens ds)))
+
+-- Behind declarations that fit, and are all, check 10 answers.
+enter-checked :
+    (k : ℕ) (T : Table) (i : ℕ) (ds : List Declaration) → areDeclarations ds ≡ true → Fits T ds → length (allTokens ds) ≤ k
+    → enter k T i (allTokens ds) ≡ checkedAt (i + length (allTokens ds)) (declareAll T ds)
+enter-checked k T i ds a f h =
+    ap (enter k T i) (sym (append-nil (allTokens ds)))
+    ∙ enter-behind k T i ds [] a f (rw (append-nil (allTokens ds)) h)
+    ∙ enter-end k (declareAll T ds) (i + length (allTokens ds))
+
+-- Declarations that fit pass, if what is in force behind them satisfies the four conditions.
+pub enter-complete :
+    (T : Table) (i : ℕ) (ds : List Declaration) → areDeclarations ds ≡ true → Fits T ds → lawfulTable (declareAll T ds) ≡ true
+    → enter (length (allTokens ds)) T i (allTokens ds) ≡ passed (declareAll T ds)
+unfolding checkedAt
+enter-complete T i ds a f l = enter-checked (length (allTokens ds)) T i ds a f (omega arith) ∙ rw (l, checkedAt) refl
+
+-- Refusals behind declarations that fit. Check 8: the tokens that follow are no declaration.
+pub unfit-refused :
+    (k : ℕ) (T : Table) (i : ℕ) (ds : List Declaration) (rest : List Token) (n : ℕ) → areDeclarations ds ≡ true → Fits T ds
+    → length (allTokens ds ++ rest) ≤ k → 0 < length rest → declaration rest ≡ unfit n
+    → enter k T i (allTokens ds ++ rest) ≡ refused 8 (i + length (allTokens ds) + n)
+unfit-refused k T i ds rest n a f h g e =
+    enter-behind k T i ds rest a f h
+    ∙ enter-unfit k (declareAll T ds) (i + length (allTokens ds)) rest n g (omega (arith, length-append (allTokens ds) rest)) e
+
+-- Check 9: the declaration that follows is one too many.
+pub overfull-refused :
+    (k : ℕ) (T : Table) (i : ℕ) (ds : List Declaration) (rest : List Token) (d : Declaration) (rest′ : List Token)
+    → areDeclarations ds ≡ true → Fits T ds → length (allTokens ds ++ rest) ≤ k → declaration rest ≡ parsed d rest′
+    → mostOperators < length (declare (declareAll T ds) d)
+    → enter k T i (allTokens ds ++ rest) ≡ refused 9 (i + length (allTokens ds) + operatorPlace d)
+overfull-refused k T i ds rest d rest′ a f h e g =
+    enter-behind k T i ds rest a f h
+    ∙ enter-overfull k (declareAll T ds) (i + length (allTokens ds)) rest d rest′ (omega (arith, length-append (allTokens ds) rest)) e g
+
+-- Check 10: there are no more declarations, and what is in force violates one of the four conditions.
+pub unlawful-refused :
+    (k : ℕ) (T : Table) (i : ℕ) (ds : List Declaration) → areDeclarations ds ≡ true → Fits T ds → length (allTokens ds) ≤ k
+    → lawfulTable (declareAll T ds) ≡ false → enter k T i (allTokens ds) ≡ refused 10 (i + length (allTokens ds))
+unfolding checkedAt
+unlawful-refused k T i ds a f h l = enter-checked k T i ds a f h ∙ rw (l, checkedAt) refl

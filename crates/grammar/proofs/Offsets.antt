@@ -1,0 +1,254 @@
+-- Tokens stand where the scan says: the first stands behind the blanks, the others in what follows it, and so on. So a text with the
+-- kinds, offsets and lengths of its tokens gives the tokens back.
+use mathlib.Core.Path.{_≡_, refl, sym, ap, ap₂, subst, _∙_}
+use mathlib.Core.Bool.{true, true≢false}
+use mathlib.Core.List.{List, [], _∷_, _++_, map, append-assoc}
+use Prim.Native.Nat.{ℕ, zero, suc, _+_, _-_, _≤_}
+use native.Mathlib.Omega.{arith}
+use native.Mathlib.Nat.{sub-zero}
+use lib.ListN.{length, take, drop, length-append, take-append-drop}
+use lib.Seq.{take-append-seam, drop-append-seam, drop-append-add, drop-drop}
+use Rattle.grammar.specs.Bytes.{Bytes}
+use Rattle.grammar.specs.Token.{
+  isBlankByte,
+  Token,
+  symbol,
+  number,
+  quoted,
+  opening,
+  closing,
+  semicolon,
+  keywordLet,
+  keywordIn,
+  keywordEnd,
+  spelling,
+}
+use Rattle.grammar.specs.Outcome.{Outcome, refused, passed}
+use Rattle.grammar.specs.Scan.{Placed, run, Front, nothing, wrong, taken, front, before, scan}
+use Rattle.grammar.specs.Nodes.{characters}
+use Rattle.grammar.specs.Coded.{kindOf, charactersIn, tokenOf, tokenAt, tokensFrom, kindAt, startAt, sizeAt}
+use Rattle.grammar.specs.Answer.{tokensOf}
+use Rattle.grammar.specs.Claim.{AllStand}
+use Rattle.grammar.proofs.Lists.{All, all-map}
+use Rattle.grammar.proofs.Plain.{isContent}
+use Rattle.grammar.proofs.Runs.{ran}
+use Rattle.grammar.proofs.Scanned.{refused-not-passed}
+use Rattle.grammar.proofs.Taken.{Begins, Told, front-told}
+
+-- The token stands at its offset in the text `s`, which begins at offset `at`.
+abbrev pub Stands : ℕ → Bytes → Placed → Type 0
+Stands at s p =
+    (at ≤ p .start) × (p .start + length (spelling (p .token)) ≤ at + length s)
+    × ((rest : Bytes) × (drop (p .start - at) s ≡ spelling (p .token) ++ rest))
+
+-- Each token starts at or behind the end of the one before; the first at or behind `n`.
+abbrev pub Ascend : ℕ → List Placed → Type 0
+Ascend n [] = Unit {0}
+Ascend n (p ∷ ps) = (n ≤ p .start) × Ascend (p .start + length (spelling (p .token))) ps
+
+-- What a scan that found the tokens `p ∷ ps` found first, and the scan of what follows.
+record First (at : ℕ) (s : Bytes) (p : Placed) (ps : List Placed) : Type 0 where
+  gap : Bytes
+  rest : Bytes
+  room : ℕ
+  written : s ≡ gap ++ (spelling (p .token) ++ rest)
+  starts : p .start ≡ at + length gap
+  further : scan room (p .start + length (spelling (p .token))) rest ≡ passed ps
+
+-- A token taken behind the blanks stands there.
+first-taken :
+    (room at : ℕ) (s : Bytes) (t : Token) (m : ℕ) (ps : List Placed) → front (drop (run isBlankByte s) s) ≡ taken t m
+    → scan room (at + run isBlankByte s + m) (drop (run isBlankByte s + m) s) ≡ passed ps
+    → First at s (record { token = t; start = at + run isBlankByte s }) ps
+first-taken room at s t m ps e h = record {
+  gap = take n s;
+  rest = here .rest;
+  room = room;
+  written = sym (take-append-drop n s) ∙ ap (λ v. take n s ++ v) (here .written);
+  starts = ap (_+_ at) (sym (ran isBlankByte s .size));
+  further = ap₂ (λ k v. scan room (at + n + k) v) (sym (here .size)) (sym behind) ∙ h;
+}
+  where
+    n : ℕ
+    n = run isBlankByte s
+
+    here : Begins (drop n s) t m
+    here = subst (Told (drop n s)) e (front-told (drop n s))
+
+    behind : drop (n + m) s ≡ here .rest
+    behind =
+        sym (drop-drop m n s)
+        ∙ ap₂ drop (here .size) (here .written)
+        ∙ drop-append-seam (spelling t) (here .rest)
+
+module _ {p : Placed} {ps : List Placed} where
+  -- The front of the text was a token.
+  front-taken :
+      {C : Type 0} (a : ℕ) (f : Front) {further : Token → ℕ → Outcome (List Placed)}
+      → elim f [ nothing ↦ passed [] | wrong k ↦ refused k a | taken t m ↦ further t m ] ≡ passed (p ∷ ps)
+      → ((t : Token) (m : ℕ) → f ≡ taken t m → further t m ≡ passed (p ∷ ps) → C) → C
+  front-taken a nothing e then = let z : _≡_ {A = ℕ} 0 1 = cc in absurd (omega arith)
+  front-taken a (wrong k) e then = absurd (refused-not-passed refl e)
+  front-taken a (taken t m) e then = then t m refl e
+
+  before-passed : (q : Placed) (o : Outcome (List Placed)) → before q o ≡ passed (p ∷ ps) → (q ≡ p) × (o ≡ passed ps)
+  unfolding before
+  before-passed q (refused k a) e = absurd (refused-not-passed refl e)
+  before-passed q (passed qs) e = (cc, cc)
+
+  first-found : (room at : ℕ) (s : Bytes) → scan room at s ≡ passed (p ∷ ps) → First at s p ps
+  unfolding scan
+  first-found zero at s h =
+      front-taken (at + run isBlankByte s) (front (drop (run isBlankByte s) s)) h λ t m e f. absurd (refused-not-passed refl f)
+  first-found (suc room) at s h =
+      front-taken (at + run isBlankByte s) (front (drop (run isBlankByte s) s)) h λ t m e f.
+      let (same, further) = before-passed _ _ f in
+      subst (λ q. First at s q ps) same (first-taken room at s t m ps e further)
+
+  first-size : (at : ℕ) (s : Bytes) (f : First at s p ps) → length s ≡ length (f .gap) + (sizeAt p + length (f .rest))
+  first-size at s f =
+      ap length (f .written)
+      ∙ length-append (f .gap) (spelling (p .token) ++ f .rest)
+      ∙ ap (_+_ (length (f .gap))) (length-append (spelling (p .token)) (f .rest))
+
+  -- The first token stands in the text, ..
+  first-stands : (at : ℕ) (s : Bytes) → First at s p ps → Stands at s p
+  first-stands at s f = (
+    omega (arith, f .starts),
+    omega (arith, f .starts, first-size at s f),
+    (f .rest, ap₂ drop offset (f .written) ∙ drop-append-seam (f .gap) (spelling (p .token) ++ f .rest)),
+  )
+    where
+      offset : p .start - at ≡ length (f .gap)
+      offset = omega (arith, f .starts)
+
+  -- .. and what stands in the text behind it stands in the whole.
+  behind-stands : (at : ℕ) (s : Bytes) (f : First at s p ps) (q : Placed) → Stands (p .start + sizeAt p) (f .rest) q → Stands at s q
+  behind-stands at s f q (low, high, (v, e)) = (
+    omega (arith, f .starts),
+    omega (arith, f .starts, first-size at s f),
+    (
+      v,
+      ap₂ drop offset (f .written)
+          ∙ drop-append-add (f .gap) (spelling (p .token) ++ f .rest) (sizeAt p + n)
+          ∙ drop-append-add (spelling (p .token)) (f .rest) n
+          ∙ e,
+    ),
+  )
+    where
+      n : ℕ
+      n = q .start - (p .start + sizeAt p)
+
+      offset : q .start - at ≡ length (f .gap) + (sizeAt p + n)
+      offset = omega (arith, f .starts)
+
+-- Each token's spelling stands in the text at its offset.
+pub token-offsets : (room at : ℕ) (s : Bytes) (ps : List Placed) → scan room at s ≡ passed ps → All (Stands at s) ps
+token-offsets room at s [] h = tt
+token-offsets room at s (p ∷ ps) h =
+    let f = first-found room at s h in
+    (first-stands at s f, all-map _ (Stands at s) (behind-stands at s f) ps (token-offsets (f .room) _ (f .rest) ps (f .further)))
+
+-- The offsets ascend.
+pub offsets-ascend : (room at : ℕ) (s : Bytes) (ps : List Placed) → scan room at s ≡ passed ps → Ascend at ps
+offsets-ascend room at s [] h = tt
+offsets-ascend room at s (p ∷ ps) h =
+    let f = first-found room at s h in
+    (first-stands at s f .0, offsets-ascend (f .room) _ (f .rest) ps (f .further))
+
+-- The token stands at its offset in the whole text.
+abbrev pub StandsIn : Bytes → Placed → Type 0
+StandsIn text p = (rest : Bytes) × (drop (p .start) text ≡ spelling (p .token) ++ rest)
+
+pub tokens-stand : (room : ℕ) (text : Bytes) (ps : List Placed) → scan room 0 text ≡ passed ps → All (StandsIn text) ps
+tokens-stand room text ps h = all-map (Stands 0 text) (StandsIn text) whole ps (token-offsets room 0 text ps h)
+  where
+    whole : (p : Placed) → Stands 0 text p → StandsIn text p
+    whole p s = (s .2 .0, ap (λ n. drop n text) (sym (sub-zero (p .start))) ∙ s .2 .1)
+
+-- The bytes from a token's offset on, as many as it has, are the token.
+pub taken-whole :
+    (room : ℕ) (text : Bytes) (ps : List Placed) → scan room 0 text ≡ passed ps
+    → All (λ p. take (length (spelling (p .token))) (drop (p .start) text) ≡ spelling (p .token)) ps
+taken-whole room text ps h = all-map (StandsIn text) _ front-of ps (tokens-stand room text ps h)
+  where
+    front-of : (p : Placed) → StandsIn text p → take (length (spelling (p .token))) (drop (p .start) text) ≡ spelling (p .token)
+    front-of p (rest, e) = ap (take (length (spelling (p .token)))) e ∙ take-append-seam (spelling (p .token)) rest
+
+-- A token's kind and characters give it back.
+pub token-coded : (t : Token) → tokenOf (kindOf t) (characters t) ≡ t
+unfolding tokenOf kindOf characters
+token-coded (symbol w) = refl
+token-coded (number d) = refl
+token-coded (quoted c) = refl
+token-coded opening = refl
+token-coded closing = refl
+token-coded semicolon = refl
+token-coded keywordLet = refl
+token-coded keywordIn = refl
+token-coded keywordEnd = refl
+
+-- The characters of a name or number are read off the text.
+pub characters-coded :
+    (text : Bytes) (t : Token) (start : ℕ) (rest : Bytes) → isContent t ≡ true → drop start text ≡ spelling t ++ rest
+    → charactersIn text (kindOf t) start (length (spelling t)) ≡ characters t
+unfolding isContent charactersIn kindOf spelling characters
+characters-coded text (symbol w) start rest c e = ap (take (length w)) e ∙ take-append-seam w rest
+characters-coded text (number d) start rest c e = ap (take (length d)) e ∙ take-append-seam d rest
+characters-coded text (quoted n) start rest c e =
+    let inside : length (spelling (quoted n)) - 2 ≡ length n = omega (arith, length-append n (39 ∷ [])) in
+    ap₂ take inside (sym (drop-drop 1 start text) ∙ ap (drop 1) e)
+    ∙ ap (take (length n)) (append-assoc n (39 ∷ []) rest)
+    ∙ take-append-seam n (39 ∷ rest)
+characters-coded text opening start rest c e = absurd (true≢false (sym c))
+characters-coded text closing start rest c e = absurd (true≢false (sym c))
+characters-coded text semicolon start rest c e = absurd (true≢false (sym c))
+characters-coded text keywordLet start rest c e = absurd (true≢false (sym c))
+characters-coded text keywordIn start rest c e = absurd (true≢false (sym c))
+characters-coded text keywordEnd start rest c e = absurd (true≢false (sym c))
+
+-- The token that stands at its offset is read off the text by its kind, offset and length.
+token-read :
+    (text : Bytes) (t : Token) (start : ℕ) (rest : Bytes) → drop start text ≡ spelling t ++ rest
+    → tokenOf (kindOf t) (charactersIn text (kindOf t) start (length (spelling t))) ≡ t
+unfolding tokenOf kindOf characters isContent
+token-read text (symbol w) start rest e = ap symbol (characters-coded text (symbol w) start rest refl e)
+token-read text (number d) start rest e = ap number (characters-coded text (number d) start rest refl e)
+token-read text (quoted n) start rest e = ap quoted (characters-coded text (quoted n) start rest refl e)
+token-read text opening start rest e = refl
+token-read text closing start rest e = refl
+token-read text semicolon start rest e = refl
+token-read text keywordLet start rest e = refl
+token-read text keywordIn start rest e = refl
+token-read text keywordEnd start rest e = refl
+
+-- Arrays without their first elements.
+tokens-behind :
+    (text : Bytes) (k s z : ℕ) (K S Z : List ℕ) (i n : ℕ)
+    → tokensFrom text (k ∷ K) (s ∷ S) (z ∷ Z) (suc i) n ≡ tokensFrom text K S Z i n
+unfolding tokensFrom tokenAt
+tokens-behind text k s z K S Z i zero = refl
+tokens-behind text k s z K S Z i (suc n) = ap (_∷_ (tokenAt text K S Z i)) (tokens-behind text k s z K S Z (suc i) n)
+
+arrays-hold :
+    (text : Bytes) (ps : List Placed) (K S Z : List ℕ) → All (StandsIn text) ps
+    → tokensFrom text (map kindAt ps ++ K) (map startAt ps ++ S) (map sizeAt ps ++ Z) 0 (length ps) ≡ tokensOf ps
+unfolding tokensFrom tokenAt tokensOf
+arrays-hold text [] K S Z h = refl
+arrays-hold text (p ∷ ps) K S Z h =
+    ap₂ _∷_ (token-read text (p .token) (p .start) (h .0 .0) (h .0 .1))
+    (tokens-behind text _ _ _ _ _ _ 0 (length ps) ∙ arrays-hold text ps K S Z (h .1))
+
+-- Arrays that begin with the kinds, offsets and lengths of a text's tokens hold these tokens.
+pub arrays-tokens :
+    (room : ℕ) (text : Bytes) (ps : List Placed) (K S Z K′ S′ Z′ : List ℕ) → scan room 0 text ≡ passed ps
+    → K ≡ map kindAt ps ++ K′ → S ≡ map startAt ps ++ S′ → Z ≡ map sizeAt ps ++ Z′
+    → tokensFrom text K S Z 0 (length ps) ≡ tokensOf ps
+arrays-tokens room text ps K S Z K′ S′ Z′ h k s z = rw (k, s, z) (arrays-hold text ps K′ S′ Z′ (tokens-stand room text ps h))
+
+all-stand : (text : Bytes) (ps : List Placed) → All (StandsIn text) ps → AllStand text ps
+all-stand text [] h = tt
+all-stand text (p ∷ ps) h = (h .0, all-stand text ps (h .1))
+
+pub scanned-stand : (room : ℕ) (text : Bytes) (ps : List Placed) → scan room 0 text ≡ passed ps → AllStand text ps
+scanned-stand room text ps h = all-stand text ps (tokens-stand room text ps h)
