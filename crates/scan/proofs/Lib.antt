@@ -1,0 +1,4 @@
+pub mod Classes
+pub mod Suffixes
+pub mod Fronts
+pub mod Scans

@@ -1,0 +1,3 @@
+// Bytes to tokens: document 01's section "Tokens" and refusals 2 to 5.
+pub mod bytes;
+pub mod tokens;
