@@ -1,0 +1,5 @@
+pub mod Moves
+pub mod Stacks
+pub mod Walks
+pub mod Laws
+pub mod Closers
