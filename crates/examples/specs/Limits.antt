@@ -81,6 +81,12 @@ limits =
     -- Sides that a fixity does not have.
     ∷ refusal (bytes "let postfix right 400 s ; in a end") 8 12
     ∷ refusal (bytes "let prefix left 400 s ; in a end") 8 11
+    -- The first token that does not fit a declaration; where it breaks off, the `in`.
+    ∷ refusal (bytes "let infix left 400 + in a end") 8 21
+    ∷ refusal (bytes "let infix left 400 in a end") 8 19
+    ∷ refusal (bytes "let infix left in a end") 8 15
+    ∷ refusal (bytes "let infix in a end") 8 10
+    ∷ refusal (bytes "let infix foo 400 + ; in a end") 8 10
     -- Structure is judged before depth.
     ∷ refusal (repeated 31 (bytes "(") ++ bytes "let (") 6 35
     ∷ refusal (repeated 32 (bytes "(") ++ bytes "let (") 7 32

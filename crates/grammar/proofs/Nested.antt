@@ -234,11 +234,16 @@ nesting-depth t p i e =
     let f : 0 + depth t ≤ deepest = fits-flat t p [] tt (omega arith) i [] (ap (nesting [] i) (append-nil (flat t)) ∙ e) in
     omega arith
 
+-- Where the tokens end with something open, they do not pass.
+pub nesting-end : (o : Open) (os : List Open) (i : ℕ) → nesting (o ∷ os) i [] ≡ passed tt → ⊥
+unfolding nesting
+nesting-end o os i e = refused-passed e
+
 -- Whether tokens pass does not depend on the number of the first.
 pub nesting-anywhere : (ts : List Token) (os : List Open) (i j : ℕ) → nesting os i ts ≡ passed tt → nesting os j ts ≡ passed tt
 unfolding nesting
 nesting-anywhere [] [] i j e = refl
-nesting-anywhere [] (o ∷ os) i j e = absurd (refused-passed e)
+nesting-anywhere [] (o ∷ os) i j e = absurd (nesting-end o os i e)
 nesting-anywhere (t ∷ ts) os i j e =
     let h = nesting-after os i t ts (move os t) refl e in
     nesting-step os j t ts (move os t) refl (h .0) ∙ nesting-anywhere ts (moved os (move os t)) (suc i) (suc j) (h .1)

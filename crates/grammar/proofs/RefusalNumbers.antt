@@ -85,17 +85,18 @@ before-between p (refused n at) b = b
 before-between p (passed ps) b = tt
 
 -- One step of the scan, from what stands at the front and what becomes of the rest behind a token.
-scan-step : (f : Front) (place : ℕ) (rest : Token → ℕ → Outcome (List Placed)) → FrontBetween f → ((t : Token) (m : ℕ) → Between 2 5 (rest t m))
-    → Between {A = List Placed} 2 5 (elim f [ nothing ↦ passed [] | wrong k ↦ refused k place | taken t m ↦ rest t m ])
-scan-step nothing place rest b r = tt
-scan-step (wrong k) place rest b r = omega arith
-scan-step (taken t m) place rest b r = r t m
+scan-step : (f : Front) (refuse : ℕ → Outcome (List Placed)) (rest : Token → ℕ → Outcome (List Placed)) → FrontBetween f
+    → ((k : ℕ) → (2 ≤ k) × (k ≤ 4) → Between 2 5 (refuse k)) → ((t : Token) (m : ℕ) → Between 2 5 (rest t m))
+    → Between {A = List Placed} 2 5 (elim f [ nothing ↦ passed [] | wrong k ↦ refuse k | taken t m ↦ rest t m ])
+scan-step nothing refuse rest b q r = tt
+scan-step (wrong k) refuse rest b q r = q k b
+scan-step (taken t m) refuse rest b q r = r t m
 
 pub scan-between : (room at : ℕ) (s : Bytes) → Between 2 5 (scan room at s)
 unfolding scan
-scan-between zero at s = scan-step (front (drop (run isBlankByte s) s)) _ _ (front-between _) (λ t m. omega arith)
+scan-between zero at s = scan-step (front (drop (run isBlankByte s) s)) _ _ (front-between _) (λ k b. omega arith) (λ t m. omega arith)
 scan-between (suc room) at s =
-    scan-step (front (drop (run isBlankByte s) s)) _ _ (front-between _) (λ t m. before-between _ _ (scan-between room _ _))
+    scan-step (front (drop (run isBlankByte s) s)) _ _ (front-between _) (λ k b. omega arith) (λ t m. before-between _ _ (scan-between room _ _))
 
 pub scan-number : (room at : ℕ) (s : Bytes) (n p : ℕ) → scan room at s ≡ refused n p → (2 ≤ n) × (n ≤ 5)
 scan-number room at s = between-number 2 5 (scan room at s) (scan-between room at s)
