@@ -123,35 +123,39 @@ unfolding itemsFrom
 closes-deeper b d us t rest e = rw (e, itemsFrom)
 
 -- Tokens that are collected as a whole inside every pair.
-abbrev Collected : List Token → Type 0
+abbrev pub Collected : List Token → Type 0
 Collected ts =
     (b : Bool) (d : ℕ) (us rest : List Token) → itemsFrom (inside b d us) (ts ++ rest) ≡ itemsFrom (inside b d (us ++ ts)) rest
 
-collected-none : Collected []
+pub collected-none : Collected []
 collected-none b d us rest = rw append-nil
 
-collected-append : (xs ys : List Token) → Collected xs → Collected ys → Collected (xs ++ ys)
+pub collected-append : (xs ys : List Token) → Collected xs → Collected ys → Collected (xs ++ ys)
 collected-append xs ys p q b d us rest =
     rw (append-assoc xs ys rest, ← append-assoc us xs ys) (p b d us (ys ++ rest) ∙ q b d (us ++ xs) rest)
 
 collected-quiet : (t : Token) → isQuiet t ≡ true → Collected (t ∷ [])
 collected-quiet t q b d us rest = collects b d us t rest (effect-quiet t q)
 
-collected-all-quiet : (ts : List Token) → AllQuiet ts → Collected ts
+pub collected-all-quiet : (ts : List Token) → AllQuiet ts → Collected ts
 collected-all-quiet [] q = collected-none
 collected-all-quiet (t ∷ ts) q = collected-append (t ∷ []) ts (collected-quiet t (q .0)) (collected-all-quiet ts (q .1))
 
-collected-pair : (b : Bool) (o e : Token) → effect o ≡ opensOne b → effect e ≡ closesOne → (ts : List Token) → Collected ts
-    → Collected (o ∷ ts ++ e ∷ [])
-collected-pair b o e p q ts c b′ d us rest =
-    rw (append-assoc ts (e ∷ []) rest)
-    (opens-deeper b′ b d us o (ts ++ e ∷ rest) p
-    ∙ (c b′ (suc d) (us ++ o ∷ []) (e ∷ rest) ∙ (closes-deeper b′ d ((us ++ o ∷ []) ++ ts) e rest q ∙ simp append-assoc)))
+-- A pair of opener and closer, then more.
+pub collected-pair : (b : Bool) (o e : Token) → effect o ≡ opensOne b → effect e ≡ closesOne → (ts more : List Token) → Collected ts
+    → Collected more → Collected (o ∷ ts ++ e ∷ more)
+collected-pair b o e p q ts more c m b′ d us rest =
+    rw (append-assoc ts (e ∷ more) rest)
+    (opens-deeper b′ b d us o (ts ++ (e ∷ more ++ rest)) p
+    ∙ (c b′ (suc d) (us ++ o ∷ []) (e ∷ more ++ rest)
+    ∙ (closes-deeper b′ d ((us ++ o ∷ []) ++ ts) e (more ++ rest) q
+    ∙ (m b′ d (((us ++ o ∷ []) ++ ts) ++ e ∷ []) rest ∙ simp append-assoc))))
 
-collected-body : (ds : List Declaration) (ts : List Token) → Collected ts → Collected (allTokens ds ++ keywordIn ∷ ts)
+-- A block's tokens between `let` and `end`.
+pub collected-block : (ds ts : List Token) → AllQuiet ds → Collected ts → Collected (ds ++ keywordIn ∷ ts)
 unfolding effect
-collected-body ds ts c =
-    collected-append (allTokens ds) (keywordIn ∷ ts) (collected-all-quiet (allTokens ds) (declarations-quiet ds))
+collected-block ds ts q c =
+    collected-append ds (keywordIn ∷ ts) (collected-all-quiet ds q)
     (collected-append (keywordIn ∷ []) ts (λ b d us rest. collects b d us keywordIn rest refl) c)
 
 -- A tree of plain leaves is collected as a whole.
@@ -159,20 +163,19 @@ collected-flat : (t : Tree) → Plain t → Collected (flat t)
 unfolding flat effect isQuiet isContent
 collected-flat nothing p = collected-none
 collected-flat (leaf t) p = collected-quiet t (content-quiet t p)
-collected-flat (bracket t) p = collected-pair false opening closing refl refl (flat t) (collected-flat t p)
+collected-flat (bracket t) p = collected-pair false opening closing refl refl (flat t) [] (collected-flat t p) collected-none
 collected-flat (block ds t) p =
-    collected-pair true keywordLet keywordEnd refl refl (allTokens ds ++ keywordIn ∷ flat t)
-    (collected-body ds (flat t) (collected-flat t p))
+    collected-pair true keywordLet keywordEnd refl refl (allTokens ds ++ keywordIn ∷ flat t) []
+    (collected-block (allTokens ds) (flat t) (declarations-quiet ds) (collected-flat t p)) collected-none
 collected-flat (node l m r) p =
     collected-append (flat l) (symbol m ∷ flat r) (collected-flat l (p .0))
     (collected-append (symbol m ∷ []) (flat r) (collected-quiet (symbol m) refl) (collected-flat r (p .1)))
 
 -- What the span itself has of a bracket pair or block.
-outside-pair : (b : Bool) (o e : Token) → effect o ≡ opensOne b → effect e ≡ closesOne → (ts rest : List Token) → Collected ts
-    → itemsFrom outside ((o ∷ ts ++ e ∷ []) ++ rest) ≡ item b ts ∷ itemsFrom outside rest
+pub outside-pair : (b : Bool) (o e : Token) → effect o ≡ opensOne b → effect e ≡ closesOne → (ts rest : List Token) → Collected ts
+    → itemsFrom outside (o ∷ ts ++ e ∷ rest) ≡ item b ts ∷ itemsFrom outside rest
 unfolding itemsFrom
-outside-pair b o e p q ts rest c =
-    rw (p, itemsFrom, append-assoc ts (e ∷ []) rest) (c b 0 [] (e ∷ rest) ∙ rw (q, itemsFrom))
+outside-pair b o e p q ts rest c = rw (p, itemsFrom) (c b 0 [] (e ∷ rest) ∙ rw (q, itemsFrom))
 
 pub outside-content : (t : Token) (rest : List Token) → isContent t ≡ true
     → itemsFrom outside (t ∷ rest) ≡ single t ∷ itemsFrom outside rest
@@ -184,11 +187,13 @@ outside-flat : (t : Tree) → Plain t → (rest : List Token)
 unfolding flat spanTree yield effect isContent item
 outside-flat nothing p rest = refl
 outside-flat (leaf t) p rest = outside-content t rest p
-outside-flat (bracket t) p rest = outside-pair false opening closing refl refl (flat t) rest (collected-flat t p)
+outside-flat (bracket t) p rest =
+    rw (append-assoc (flat t) (closing ∷ []) rest) (outside-pair false opening closing refl refl (flat t) rest (collected-flat t p))
 outside-flat (block ds t) p rest =
-    outside-pair true keywordLet keywordEnd refl refl (allTokens ds ++ keywordIn ∷ flat t) rest
-    (collected-body ds (flat t) (collected-flat t p))
-    ∙ rw (item-block (allTokens ds) (flat t) (declarations-quiet ds))
+    rw (append-assoc (allTokens ds ++ keywordIn ∷ flat t) (keywordEnd ∷ []) rest)
+    (outside-pair true keywordLet keywordEnd refl refl (allTokens ds ++ keywordIn ∷ flat t) rest
+    (collected-block (allTokens ds) (flat t) (declarations-quiet ds) (collected-flat t p))
+    ∙ rw (item-block (allTokens ds) (flat t) (declarations-quiet ds)))
 outside-flat (node l m r) p rest =
     rw (append-assoc (flat l) (symbol m ∷ flat r) rest)
     (rw (append-assoc (yield (spanTree l)) (single (symbol m) ∷ yield (spanTree r)) (itemsFrom outside rest))

@@ -153,7 +153,7 @@ module _ (inner : Table → ℕ → List Token → Outcome (Unit {0})) (bounded 
   unfolding checkItems
   checkItems-between T i [] = tt
   checkItems-between T i (x ∷ xs) =
-      between-andThen 8 10 (checkItem inner T i x) _ (checkItem-between T i x) (λ u. checkItems-between T (i + length (itemTokens x)) xs)
+      between-andThen 8 10 (checkItem inner T i x) _ (checkItem-between T i x) (λ u. checkItems-between _ _ xs)
 
 pub blocks-between : (k : ℕ) (T : Table) (i : ℕ) (ts : List Token) → Between 8 10 (checkBlocks k T i ts)
 unfolding checkBlocks

@@ -1,0 +1,3 @@
+pub mod Precedences
+pub mod Words
+pub mod Parts

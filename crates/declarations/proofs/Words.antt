@@ -1,0 +1,162 @@
+-- The words of declarations as numbers: what each word's number is, and what a number says of the word.
+use mathlib.Core.Path.{_≡_, refl, sym, ap, _∙_}
+use mathlib.Core.Bool.{Bool, true, false}
+use mathlib.Core.Option.{Option, none, some}
+use Prim.Native.Nat.{ℕ, _≤_}
+use native.Mathlib.Omega.{arith}
+use lib.Dec.{eqb}
+use borrow.Author.Tests.{ne-eqb, eqb-true, eqb-false}
+use Rattle.grammar.specs.Bytes.{Bytes, bytes, same}
+use Rattle.grammar.specs.Operator.{Fixity, Prefix, Infix, Postfix, Associativity, left, right, non, allowed}
+use Rattle.grammar.specs.Coded.{fixityCode, fixityOf, associativityCode, associativityOf}
+use Rattle.grammar.specs.Token.{symbol}
+use Rattle.grammar.specs.Declaration.{fixityWord, associativityWord, fixityNamed, associativityNamed, associativityFor, symbolOf}
+use Rattle.declarations.specs.Parses.{fixityNumber, associativityNumber}
+
+module _ (w : Bytes) where
+  pub fixity-infix : same w (bytes "infix") ≡ true → fixityNumber w ≡ 1
+  unfolding fixityNumber fixityNamed fixityWord fixityCode
+  fixity-infix e = rw (e, fixityNumber, fixityNamed)
+
+  module _ (e : same w (bytes "infix") ≡ false) where
+    pub fixity-prefix : same w (bytes "prefix") ≡ true → fixityNumber w ≡ 2
+    unfolding fixityNumber fixityNamed fixityWord fixityCode
+    fixity-prefix h = rw (e, h, fixityNumber, fixityNamed)
+
+    module _ (h : same w (bytes "prefix") ≡ false) where
+      pub fixity-postfix : same w (bytes "postfix") ≡ true → fixityNumber w ≡ 3
+      unfolding fixityNumber fixityNamed fixityWord fixityCode
+      fixity-postfix g = rw (e, h, g, fixityNumber, fixityNamed)
+
+      pub fixity-none : same w (bytes "postfix") ≡ false → fixityNumber w ≡ 0
+      unfolding fixityNumber fixityNamed fixityWord fixityCode
+      fixity-none g = rw (e, h, g, fixityNumber, fixityNamed)
+
+-- An associativity's number, 0 where the fixity may not have it.
+unfoldable pub numbered : Fixity → Associativity → ℕ
+numbered g a = elim (allowed g a) [ true ↦ associativityCode a | false ↦ 0 ]
+
+module _ (f : ℕ) where
+  pub left-prefix : f ≡ 2 → numbered (fixityOf f) left ≡ 0
+  unfolding numbered allowed fixityOf
+  left-prefix e = rw e
+
+  pub left-other : (f ≡ 2 → ⊥) → numbered (fixityOf f) left ≡ 1
+  unfolding numbered allowed fixityOf associativityCode
+  left-other n = go (eqb f 1) refl
+    where
+      go : (b : Bool) → eqb f 1 ≡ b → numbered (fixityOf f) left ≡ 1
+      go true e = rw (eqb-true f 1 e)
+      go false e =
+          let z : fixityOf f ≡ Postfix = rw (e, ne-eqb f 2 n, fixityOf) in
+          ap (λ g. numbered g left) z
+
+  pub right-infix : f ≡ 1 → numbered (fixityOf f) right ≡ 2
+  unfolding numbered allowed fixityOf associativityCode
+  right-infix e = rw e
+
+  pub right-prefix : f ≡ 2 → numbered (fixityOf f) right ≡ 2
+  unfolding numbered allowed fixityOf associativityCode
+  right-prefix e = rw e
+
+  pub right-postfix : (f ≡ 1 → ⊥) → (f ≡ 2 → ⊥) → numbered (fixityOf f) right ≡ 0
+  unfolding numbered allowed fixityOf
+  right-postfix n m =
+      let z : fixityOf f ≡ Postfix = rw (ne-eqb f 1 n, ne-eqb f 2 m, fixityOf) in
+      ap (λ g. numbered g right) z
+
+non-any : (g : Fixity) → numbered g non ≡ 3
+unfolding numbered allowed associativityCode
+non-any Prefix = refl
+non-any Infix = refl
+non-any Postfix = refl
+
+module _ (f : ℕ) (w : Bytes) where
+  number-of : (a : Associativity) → associativityNamed w ≡ some a → associativityNumber f w ≡ numbered (fixityOf f) a
+  unfolding associativityNumber numbered
+  number-of a e = rw (e, associativityNumber)
+
+  pub associativity-left : same w (bytes "left") ≡ true → associativityNumber f w ≡ numbered (fixityOf f) left
+  unfolding associativityNamed associativityWord
+  associativity-left e = number-of left (rw (e, associativityNamed))
+
+  module _ (e : same w (bytes "left") ≡ false) where
+    pub associativity-right : same w (bytes "right") ≡ true → associativityNumber f w ≡ numbered (fixityOf f) right
+    unfolding associativityNamed associativityWord
+    associativity-right h = number-of right (rw (e, h, associativityNamed))
+
+    module _ (h : same w (bytes "right") ≡ false) where
+      pub associativity-non : same w (bytes "non") ≡ true → associativityNumber f w ≡ 3
+      unfolding associativityNamed associativityWord
+      associativity-non g = number-of non (rw (e, h, g, associativityNamed)) ∙ non-any (fixityOf f)
+
+      pub associativity-none : same w (bytes "non") ≡ false → associativityNumber f w ≡ 0
+      unfolding associativityNumber associativityNamed associativityWord
+      associativity-none g = rw (e, h, g, associativityNumber, associativityNamed)
+
+-- A number stands for what was found: 0 for nothing, any other for what it is the code of.
+pub record StandsFor {A : Type 0} (of : ℕ → A) (code : A → ℕ) (o : Option A) (n : ℕ) : Type 0 where
+  pub nothing : n ≡ 0 → o ≡ none
+  pub found : (n ≡ 0 → ⊥) → o ≡ some (of n)
+  pub back : (n ≡ 0 → ⊥) → code (of n) ≡ n
+
+module _ {A : Type 0} (of : ℕ → A) (code : A → ℕ) where
+  stands-none : StandsFor of code none 0
+  stands-none = record { nothing = λ e. refl; found = λ n. absurd (n refl); back = λ n. absurd (n refl) }
+
+  stands-some : (a : A) → (code a ≡ 0 → ⊥) → of (code a) ≡ a → StandsFor of code (some a) (code a)
+  stands-some a n e = record { nothing = λ z. absurd (n z); found = λ z. ap some (sym e); back = λ z. ap code e }
+
+fixity-stands : (f : Fixity) → StandsFor fixityOf fixityCode (some f) (fixityCode f)
+unfolding fixityOf fixityCode
+fixity-stands Prefix = stands-some fixityOf fixityCode Prefix (λ z. omega (arith, z)) refl
+fixity-stands Infix = stands-some fixityOf fixityCode Infix (λ z. omega (arith, z)) refl
+fixity-stands Postfix = stands-some fixityOf fixityCode Postfix (λ z. omega (arith, z)) refl
+
+associativity-stands : (a : Associativity) → StandsFor associativityOf associativityCode (some a) (associativityCode a)
+unfolding associativityOf associativityCode
+associativity-stands left = stands-some associativityOf associativityCode left (λ z. omega (arith, z)) refl
+associativity-stands right = stands-some associativityOf associativityCode right (λ z. omega (arith, z)) refl
+associativity-stands non = stands-some associativityOf associativityCode non (λ z. omega (arith, z)) refl
+
+pub fixity-number : (w : Bytes) → StandsFor fixityOf fixityCode (fixityNamed w) (fixityNumber w)
+unfolding fixityNumber
+fixity-number w = go (fixityNamed w)
+  where
+    go : (o : Option Fixity) → StandsFor fixityOf fixityCode o (elim o [ none ↦ 0 | some f ↦ fixityCode f ])
+    go none = stands-none fixityOf fixityCode
+    go (some f) = fixity-stands f
+
+-- As `associativityFor` takes it.
+pub associativity-number
+    : (f : ℕ) (w : Bytes) → StandsFor associativityOf associativityCode (associativityFor (fixityOf f) (symbol w)) (associativityNumber f w)
+unfolding associativityNumber associativityFor symbolOf
+associativity-number f w = go (associativityNamed w)
+  where
+    choose : (a : Associativity) (b : Bool)
+        → StandsFor associativityOf associativityCode (elim b [ true ↦ some a | false ↦ none ]) (elim b [ true ↦ associativityCode a | false ↦ 0 ])
+    choose a true = associativity-stands a
+    choose a false = stands-none associativityOf associativityCode
+
+    go : (o : Option Associativity)
+        → StandsFor associativityOf associativityCode
+        (elim o [ none ↦ none | some a ↦ elim (allowed (fixityOf f) a) [ true ↦ some a | false ↦ none ] ])
+        (elim o [ none ↦ 0 | some a ↦ elim (allowed (fixityOf f) a) [ true ↦ associativityCode a | false ↦ 0 ] ])
+    go none = stands-none associativityOf associativityCode
+    go (some a) = choose a (allowed (fixityOf f) a)
+
+most : (a : Associativity) → associativityCode a ≤ 3
+unfolding associativityCode
+most left = omega arith
+most right = omega arith
+most non = omega arith
+
+-- An associativity's number is at most 3.
+pub associativity-bound : (f : ℕ) (w : Bytes) → associativityNumber f w ≤ 3
+associativity-bound f w = go (eqb (associativityNumber f w) 0) refl
+  where
+    go : (b : Bool) → eqb (associativityNumber f w) 0 ≡ b → associativityNumber f w ≤ 3
+    go true e = omega (arith, eqb-true (associativityNumber f w) 0 e)
+    go false e =
+        omega
+        (arith, most (associativityOf (associativityNumber f w)), associativity-number f w .back (eqb-false (associativityNumber f w) 0 e))

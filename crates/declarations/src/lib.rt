@@ -1,0 +1,2 @@
+// The declarations of a block: document 01's refusals 8, 9 and 10.
+pub mod parse;

@@ -1,0 +1,2 @@
+// A span's items, one behind the other.
+pub mod fill;
