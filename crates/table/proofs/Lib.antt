@@ -1,0 +1,4 @@
+pub mod Roles
+pub mod Numbered
+pub mod Laws
+pub mod Tables
