@@ -1,0 +1,9 @@
+pub mod Roles
+pub mod Ranges
+pub mod Found
+pub mod Roots
+pub mod Parts
+pub mod PartRanges
+pub mod ItemSlots
+pub mod ItemRoots
+pub mod Bridge
