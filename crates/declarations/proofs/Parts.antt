@@ -77,7 +77,7 @@ by-kind P c p1 p2 p3 p4 p5 p6 p7 p8 p9 k =
         go false e = q
 
 module _ (k : ℕ) (c : Bytes) where
-  symbol-other : (k ≡ 1 → ⊥) → symbolOf (tokenOf k c) ≡ none
+  pub symbol-other : (k ≡ 1 → ⊥) → symbolOf (tokenOf k c) ≡ none
   unfolding symbolOf
   symbol-other =
       by-kind
@@ -216,7 +216,7 @@ module _ (text : Bytes) (K S Z : List ℕ) (to : ℕ) where
   abbrev characters : ℕ → ℕ → Bytes
   characters kind at = charactersIn text kind (getD S at 0) (getD Z at 0)
 
-  tokens-end : (at : ℕ) → to ≤ at → tokens at ≡ []
+  pub tokens-end : (at : ℕ) → to ≤ at → tokens at ≡ []
   unfolding tokensFrom
   tokens-end at h = let z : to - at ≡ 0 = omega arith in ap (tokensFrom text K S Z at) z
 

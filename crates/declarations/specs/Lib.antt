@@ -1,1 +1,2 @@
 pub mod Parses
+pub mod Entering

@@ -78,7 +78,7 @@ limits =
     ∷ success (bytes "+-*/<>=!&|^~:?@#$%") 1 18
     ∷ success (bytes "& = ~ and @ = $ and % = ^") 11 25
     ∷ refusal (97 ∷ 11 ∷ []) 2 1
-    -- Sides that a fixity does not have.
+    -- Associativities that a fixity does not have.
     ∷ refusal (bytes "let postfix right 400 s ; in a end") 8 12
     ∷ refusal (bytes "let prefix left 400 s ; in a end") 8 11
     -- The first token that does not fit a declaration; where it breaks off, the `in`.
@@ -106,7 +106,7 @@ limits =
     ∷ record { text = bytes "a"; words = 4; room = 0; reading = answer 12 0 0; canonicalizing = answer 13 0 0 }
     ∷ record { text = bytes "a+b"; words = 15; room = 5; reading = answer 0 0 3; canonicalizing = answer 0 0 5 }
     ∷ record { text = bytes "a+b"; words = 14; room = 4; reading = answer 12 0 0; canonicalizing = answer 13 0 0 }
-    -- A canonical text of 16,384 bytes passes, whatever the buffer.
+    -- A canonical text of 16,384 bytes passes; one byte more is refused whatever the buffer.
     ∷ record {
       text = longNames 248 ++ repeated 16 (bytes "y");
       words = 2485;

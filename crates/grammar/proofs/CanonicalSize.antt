@@ -1,4 +1,4 @@
--- The canonical text is no longer than the text, and its brackets and blocks stand no deeper: where the canonical tree brackets
+-- The canonical text has no more tokens than the text, and its brackets and blocks stand no deeper: where the canonical tree brackets
 -- an operand, the place refuses it, so it stood in a bracket before. One argument serves both measures.
 use mathlib.Core.Path.{_≡_, refl, ap, _∙_}
 use mathlib.Core.Bool.{false}
@@ -96,7 +96,7 @@ depth-measure =
       inNode = λ m l l′ r r′ h k. omega arith;
     }
 
--- The canonical text is no longer,
+-- The canonical text has no more tokens,
 pub canonical-shorter :
     (T : Table) (t : Tree) → Positive T → Admitted T (spanTree t) → InnerOk T t → length (flat (canonical T t)) ≤ length (flat t)
 canonical-shorter = smaller (λ t. length (flat t)) length-measure

@@ -111,7 +111,8 @@ fixityCode Postfix = 3
 unfoldable pub fixityOf : ℕ → Fixity
 fixityOf f = elim (eqb f 1) [ true ↦ Infix | false ↦ elim (eqb f 2) [ true ↦ Prefix | false ↦ Postfix ] ]
 
--- Associativities and roles as numbers: 0 for no role, else four times the precedence plus 1, 2 or 3.
+-- Associativities and roles as numbers: 0 for no role, else four times the precedence plus 1 (left), 2 (right) or 3 (non; any other
+-- number counts as non too).
 unfoldable pub associativityCode : Associativity → ℕ
 associativityCode left = 1
 associativityCode right = 2

@@ -86,6 +86,7 @@ unfoldable pub rightRoot : Option Role → Bool
 rightRoot none = false
 rightRoot (some r) = isRight (r .associativity)
 
+-- Where an operand stands (not what 01 calls a side, which is an associativity).
 pub data Side : Type 0 where
   onLeft onRight : Side
 

@@ -48,6 +48,7 @@ SpanOk T t = Admitted T (spanTree t) × (present (spanTree t) ≡ true)
 
 -- "A tree of a text is a tree of each of its spans, an inner one hung under its bracket or block node." "The body is read under
 -- the outer table with these changes; after `end` the outer table is back."
+-- A block's declarations are allowed ones and its operators meet the four conditions: of a text past checks 1 to 10 that holds.
 abbrev pub InnerOk : Table → Tree → Type 0
 InnerOk T nothing = Unit {0}
 InnerOk T (leaf t) = Unit {0}
@@ -56,7 +57,6 @@ InnerOk T (block ds t) =
     (areDeclarations ds ≡ true) × Conditions (declareAll T ds) × SpanOk (declareAll T ds) t × InnerOk (declareAll T ds) t
 InnerOk T (node l m r) = InnerOk T l × InnerOk T r
 
--- A block's declarations are allowed ones and its operators meet the four conditions: of a text past checks 1 to 10 that holds.
 -- `t` is a tree of the tokens `ts` under the operators `T`. "Two trees of a text are the same if at every node they have the
 -- same kind over the same tokens": two trees of the same tokens are the same where they are equal.
 pub record IsTree (T : Table) (ts : List Token) (t : Tree) : Type 0 where

@@ -2,7 +2,7 @@
 -- The entries are compared one by one; what that means for the list is in `Numbered`.
 use mathlib.Core.Path.{_≡_, refl, sym, ap, _∙_}
 use mathlib.Core.Bool.{true, false}
-use mathlib.Core.List.{[], _∷_}
+use mathlib.Core.List.{List, [], _∷_}
 use mathlib.Core.Option.{none, some}
 use Prim.Native.Nat.{ℕ, zero, suc, _+_, _≤_, _<_}
 use native.Mathlib.Numerals.{add-one}
@@ -54,6 +54,7 @@ use Rattle.table.proofs.Numbered.{
   removed-found,
 }
 use Rattle.table.proofs.Laws.{Long}
+use Rattle.table.proofs.Codes.{coded-role, coded-operator, coded-removed}
 
 module _ (text : Bytes) where
   -- An operator by its numbers, and the one at an entry.
@@ -209,6 +210,11 @@ module _ (text : Bytes) where
         (h .infixes .moved j a g) (h .postfixes .moved j a g))))
         ∙ ap (removeRoles m) (sym l)
 
+-- The same of arrays that stand alone: the number found is one of theirs.
+pub found-within : (text name : Bytes) (S Z : List ℕ) (n k : ℕ) → codedFind text S Z name 0 n ≡ At k → k < n
+found-within text name S Z n k e =
+    found-below text (record { starts = S; sizes = Z; prefixes = []; infixes = []; postfixes = []; count = n }) name e
+
 -- A declaration meets its contract: at an operator that is there, ..
 module _ (text : Bytes) (t : Table) (start size : ℕ) where
   module _ (fixity code : ℕ) (long : Long t) (asked : Declarable text t start size fixity code) where
@@ -220,6 +226,7 @@ module _ (text : Bytes) (t : Table) (start size : ℕ) where
         let l = found-below text t (nameIn text start size) e in
         record {
           sized = rw h (asked .sized);
+          coded = λ g c. rw h (coded-role t g i (fixityOf fixity) code c);
           table = λ r c.
               ap (tableOf text) h
               ∙ role-found text t (nameIn text start size) long i (omega arith) e (fixityOf fixity) code r c;
@@ -241,6 +248,8 @@ module _ (text : Bytes) (t : Table) (start size : ℕ) where
         h ∙ ap (λ w. withRole w (t .count) (fixityOf fixity) code) g in
         record {
           sized = rw k (omega arith);
+          coded = λ g c.
+              rw k (coded-role (withOperator t start size) (coded-operator t g start size) (t .count) (fixityOf fixity) code c);
           table = λ r c.
               ap (tableOf text) k
               ∙ role-new text t (nameIn text start size) long f e start size refl (fixityOf fixity) code r c;
@@ -251,7 +260,11 @@ module _ (text : Bytes) (t : Table) (start size : ℕ) where
     pub cleared-at :
         (i : ℕ) → Finds text t (nameIn text start size) (At i) → (u : Table) → Removed t i u → Cleared text t start size u
     cleared-at i e u h =
-        record { sized = omega arith; table = clear-found text t (nameIn text start size) i e (asked .distinct) u h }
+        record {
+          sized = omega arith;
+          coded = λ g. coded-removed t g i u h;
+          table = clear-found text t (nameIn text start size) i e (asked .distinct) u h;
+        }
 
     pub cleared-none : Finds text t (nameIn text start size) Nothing → Cleared text t start size t
-    cleared-none e = record { sized = asked .sized; table = clear-nothing text t (nameIn text start size) e }
+    cleared-none e = record { sized = asked .sized; coded = λ g. g; table = clear-nothing text t (nameIn text start size) e }

@@ -8,7 +8,7 @@ use lib.Dec.{ltb}
 use lib.ListN.{length, take, drop, getD, set}
 use Rattle.grammar.specs.Bytes.{Bytes, bytes, same}
 use Rattle.grammar.specs.Operator.{Fixity, Prefix, Infix, Postfix, Role, Operator}
-use Rattle.grammar.specs.Coded.{fixityOf, roleOf, rolesOf}
+use Rattle.grammar.specs.Coded.{fixityOf, roleCode, roleOf, rolesOf}
 use Rattle.grammar.specs.Operator as G
 use Rattle.grammar.specs.Declaration.{start}
 use Rattle.grammar.specs.Answer.{longestText}
@@ -46,9 +46,18 @@ tableOf text t = operatorsFrom text (t .starts) (t .sizes) (t .prefixes) (t .inf
 abbrev pub Sized : Table → Type 0
 Sized t = t .count ≤ 64
 
+-- A number that stands for a role, or 0 for none: the number of what it stands for.
+abbrev pub IsCode : ℕ → Type 0
+IsCode c = roleCode (roleOf c) ≡ c
+
+-- Every number in the role arrays is one.
+abbrev pub Coded : Table → Type 0
+Coded t = (j : ℕ) → IsCode (getD (t .prefixes) j 0) × IsCode (getD (t .infixes) j 0) × IsCode (getD (t .postfixes) j 0)
+
 -- The table of the starting operators, whatever the text.
 pub record Starting (t : Table) : Type 0 where
   pub sized : Sized t
+  pub coded : Coded t
   pub table : (text : Bytes) → tableOf text t ≡ start
 
 -- Whether `n` operators meet the four conditions: their names play no part.
@@ -65,6 +74,7 @@ pub record Declarable (text : Bytes) (t : Table) (start size fixity code : ℕ) 
 -- What it gives: "A declared role replaces the mark's former role of that kind."
 pub record Declared (text : Bytes) (t : Table) (start size fixity code : ℕ) (u : Table) : Type 0 where
   pub sized : Sized u
+  pub coded : Coded t → IsCode code → Coded u
   pub table : (r : Role) → roleOf code ≡ some r → tableOf text u ≡ G.declareRole (nameIn text start size) (fixityOf fixity) r (tableOf text t)
 
 -- The same for removing all roles of an operator: no two operators have one name.
@@ -75,6 +85,7 @@ pub record Clearable (text : Bytes) (t : Table) (start size : ℕ) : Type 0 wher
 
 pub record Cleared (text : Bytes) (t : Table) (start size : ℕ) (u : Table) : Type 0 where
   pub sized : Sized u
+  pub coded : Coded t → Coded u
   pub table : tableOf text u ≡ G.removeRoles (nameIn text start size) (tableOf text t)
 
 -- The steps: one more operator, with no role yet ..

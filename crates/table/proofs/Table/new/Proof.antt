@@ -7,8 +7,9 @@ use Rattle.grammar.specs.Operator.{Operator, Prefix, Infix, Postfix, replaced, 
 use Rattle.grammar.specs.Operator as G
 use Rattle.grammar.specs.Bytes.{same}
 use Rattle.grammar.specs.Declaration.{value, valueFrom, declare, declareAll, startDeclarations, start}
-use Rattle.grammar.specs.Coded.{associativityOf, roleOf, rolesOf}
+use Rattle.grammar.specs.Coded.{associativityCode, associativityOf, roleCode, roleOf, rolesOf}
 use Rattle.table.specs.Entries.{nameIn, operatorsFrom, tableOf}
+use Rattle.table.proofs.Codes.{areCodes, starting-coded}
 use Rattle.table.proofs.Numbered.{roles-equal, operators-equal}
 use Rattle.table.proofs.Table.new.Statement.{statement}
 use Rattle.table.proofs.Table.new.Tie as tie
@@ -20,20 +21,18 @@ and :
 and n p i q e = ap₂ _∷_ (operators-equal n (roles-equal _ _ p i q)) e
 
 returns : tie.Need-returns
-unfolding nameIn operatorsFrom tableOf start startDeclarations declareAll declare declareRole same replaced sameFixity value valueFrom rolesOf roleOf associativityOf
+unfolding areCodes associativityCode roleCode nameIn operatorsFrom tableOf start startDeclarations declareAll declare declareRole same replaced sameFixity value valueFrom rolesOf roleOf associativityOf
 returns c =
-    record {
-      sized = omega arith;
-      table = λ text.
-          and refl refl refl refl
-          (and refl refl refl refl
-          (and refl refl refl refl
-          (and refl refl refl refl
-          (and refl refl refl refl
-          (and refl refl refl refl
-          (and refl refl refl refl
-          (and refl refl refl refl refl)))))));
-    }
+    starting-coded _ (omega arith) refl refl refl
+    (λ text.
+    and refl refl refl refl
+    (and refl refl refl refl
+    (and refl refl refl refl
+    (and refl refl refl refl
+    (and refl refl refl refl
+    (and refl refl refl refl
+    (and refl refl refl refl
+    (and refl refl refl refl refl))))))))
 
 -- The other needs: each index is below 64.
 pub new-spec : {M : Type 1} → statement M

@@ -1,0 +1,257 @@
+-- One declaration in the arrays of tokens: its tokens are the first ones, so its operator's name is a part of the text, and the checks
+-- behind it go on at the token that follows, with less fuel.
+use mathlib.Core.Path.{_≡_, refl, sym, ap, subst, _∙_}
+use mathlib.Core.Bool.{Bool, true, false}
+use mathlib.Core.List.{List, [], _∷_, _++_}
+use mathlib.Core.Option.{none, some}
+use Prim.Native.Nat.{ℕ, zero, suc, _+_, _-_, _*_, _/_, _%_, _≤_, _<_}
+use native.Mathlib.Omega.{arith}
+use lib.Dec.{eqb, leb}
+use lib.ListN.{length, take, drop, getD}
+use borrow.Author.Tests.{le-leb, lt-leb, eqb-true, eqb-false}
+use Rattle.grammar.specs.Bytes.{Bytes}
+use Rattle.grammar.specs.Token.{Token, symbol, number, semicolon}
+use Rattle.grammar.specs.Outcome.{Outcome, refused, passed}
+use Rattle.grammar.specs.Operator.{Fixity, Prefix, Infix, Postfix, Associativity, left, right, non, Role, Table, declareRole, removeRoles, lawfulTable, Distinct}
+use Rattle.grammar.specs.Coded.{charactersIn, tokenOf, tokenAt, tokensFrom, fixityOf, fixityCode, associativityOf, associativityCode, roleOf}
+use Rattle.grammar.specs.Declaration.{
+  Declaration,
+  declares,
+  clears,
+  declare,
+  declareAll,
+  value,
+  declarationTokens,
+  allTokens,
+  areDeclarations,
+  unfit,
+  parsed,
+  symbolOf,
+  declaration,
+  operatorPlace,
+  mostOperators,
+  checkedAt,
+  enter,
+}
+use Rattle.grammar.specs.Declaration as D
+use Rattle.grammar.specs.Answer.{longestText}
+use Rattle.grammar.proofs.Declarations.{declaration-sound, enter-end, enter-step}
+use Rattle.grammar.proofs.EnterComplete.{enter-fuel, unfit-refused}
+use Rattle.grammar.proofs.Operators.{distinct-declared}
+use Rattle.table.specs.Entries.{nameIn}
+use Rattle.table.proofs.Laws.{name-in-text}
+use Rattle.table.proofs.Roles.{a-role}
+use Rattle.declarations.specs.declared.parse.Parsed.the-variants.{Unfit, Clears}
+use Rattle.declarations.specs.declared.parse.Parsed.the-variants as P
+use Rattle.declarations.specs.Parses.{codedParsed, codedDeclaration}
+use Rattle.declarations.specs.Entering.{InText}
+use Rattle.declarations.proofs.Parts.{symbol-other, tokens, tokens-end}
+use Rattle.declarations.proofs.Unfit.{was-unfit}
+
+-- Codes give back what they stand for.
+fixity-back : (f : Fixity) → fixityOf (fixityCode f) ≡ f
+unfolding fixityOf fixityCode
+fixity-back Prefix = refl
+fixity-back Infix = refl
+fixity-back Postfix = refl
+
+associativity-back :
+    (a : Associativity) → (0 < associativityCode a) × (associativityCode a < 4) × (associativityOf (associativityCode a) ≡ a)
+unfolding associativityOf associativityCode
+associativity-back left = (omega arith, omega arith, refl)
+associativity-back right = (omega arith, omega arith, refl)
+associativity-back non = (omega arith, omega arith, refl)
+
+role-back : (v : ℕ) (a : Associativity) → roleOf (v * 4 + associativityCode a) ≡ some (record { precedence = v; associativity = a })
+role-back v a =
+    let (p, l, e) = associativity-back a in
+    let n = v * 4 + associativityCode a in
+    let d : n / 4 ≡ v = omega arith in
+    let m : n % 4 ≡ associativityCode a = omega arith in
+    a-role n (λ z. omega arith) ∙ ap (λ r. some r) (λ i. record { precedence = d i; associativity = (ap associativityOf m ∙ e) i })
+
+-- A declaration's operator is one of its tokens.
+operator-within : (d : Declaration) → operatorPlace d < length (declarationTokens d)
+unfolding operatorPlace declarationTokens
+operator-within (declares f a c m) = omega arith
+operator-within (clears m) = omega arith
+
+module _ (text : Bytes) (K S Z : List ℕ) where
+  abbrev run : ℕ → ℕ → List Token
+  run = tokensFrom text K S Z
+
+  run-length : (i n : ℕ) → length (run i n) ≡ n
+  unfolding tokensFrom
+  run-length i zero = refl
+  run-length i (suc n) = ap suc (run-length (suc i) n)
+
+  -- Behind the first tokens stand the others.
+  run-behind :
+      (ts : List Token) (i n : ℕ) (rest : List Token) → run i n ≡ ts ++ rest
+      → (length ts ≤ n) × (rest ≡ run (i + length ts) (n - length ts))
+  unfolding tokensFrom
+  run-behind [] i n rest e =
+      let j : i + 0 ≡ i = omega arith in
+      let m : n - 0 ≡ n = omega arith in
+      (omega arith, sym e ∙ sym (rw (j, m) refl))
+  run-behind (t ∷ ts) i zero rest e = let z : _≡_ {A = ℕ} 0 1 = cc in absurd (omega arith)
+  run-behind (t ∷ ts) i (suc n) rest e =
+      let (l, r) = run-behind ts (suc i) n rest (cc) in
+      let j : i + suc (length ts) ≡ suc i + length ts = omega arith in
+      let m : suc n - suc (length ts) ≡ n - length ts = omega arith in
+      (omega arith, r ∙ sym (rw (j, m) refl))
+
+  -- A token that is a symbol is a part of the text.
+  symbol-at : (i : ℕ) (m : Bytes) → tokenAt text K S Z i ≡ symbol m → m ≡ take (getD Z i 0) (drop (getD S i 0) text)
+  unfolding tokenAt tokenOf charactersIn symbolOf
+  symbol-at i m e = go (eqb (getD K i 0) 1) refl
+    where
+      go : (b : Bool) → eqb (getD K i 0) 1 ≡ b → m ≡ take (getD Z i 0) (drop (getD S i 0) text)
+      go true k =
+          let h : getD K i 0 ≡ 1 = eqb-true (getD K i 0) 1 k in
+          let q : symbol (take (getD Z i 0) (drop (getD S i 0) text)) ≡ symbol m =
+          sym (ap (λ k. tokenOf k (charactersIn text k (getD S i 0) (getD Z i 0))) h) ∙ e in
+          cc
+      go false k =
+          let c = charactersIn text (getD K i 0) (getD S i 0) (getD Z i 0) in
+          let q : none ≡ some m = sym (symbol-other (getD K i 0) c (eqb-false (getD K i 0) 1 k)) ∙ ap symbolOf e in
+          cc
+
+  -- So is one in front of which others stand.
+  symbol-behind :
+      (ts : List Token) (i n : ℕ) (m : Bytes) (rest : List Token) → run i n ≡ ts ++ symbol m ∷ rest
+      → m ≡ take (getD Z (i + length ts) 0) (drop (getD S (i + length ts) 0) text)
+  unfolding tokensFrom
+  symbol-behind ts i n m rest e =
+      let (l, r) = run-behind ts i n (symbol m ∷ rest) e in
+      symbol-at (i + length ts) m (first (n - length ts) r)
+    where
+      first : (k : ℕ) → symbol m ∷ rest ≡ run (i + length ts) k → tokenAt text K S Z (i + length ts) ≡ symbol m
+      first zero r = cc
+      first (suc k) r = cc
+
+module _ (text : Bytes) (K S Z : List ℕ) (to : ℕ) where
+  abbrev tokensAt : ℕ → List Token
+  tokensAt = tokens text K S Z to
+
+  abbrev nameAt : ℕ → Bytes
+  nameAt i = nameIn text (getD S i 0) (getD Z i 0)
+
+  -- What the checks answer of the tokens from number `at` on, under the operators `T`.
+  abbrev pub entered : Table → ℕ → Outcome Table
+  entered T at = enter (to - at) T at (tokensAt at)
+
+  pub entered-unfit :
+      (T : Table) (at n : ℕ) → at < to → codedParsed (declaration (tokensAt at)) ≡ Unfit n → entered T at ≡ refused 8 (at + n)
+  unfolding allTokens areDeclarations declareAll
+  entered-unfit T at n h e =
+      let l = run-length text K S Z at (to - at) in
+      unfit-refused (to - at) T at [] (tokensAt at) n refl tt (omega arith) (omega arith) (was-unfit (declaration (tokensAt at)) n e)
+      ∙ ap (refused 8) (omega arith)
+
+  -- Behind the last token.
+  entered-end : (T : Table) (at : ℕ) → at ≡ to → entered T at ≡ checkedAt to T
+  entered-end T at h =
+      ap (enter (to - at) T at) (tokens-end text K S Z to at (omega arith)) ∙ enter-end (to - at) T at ∙ ap (λ i. checkedAt i T) h
+
+  pub entered-lawful : (T : Table) (at : ℕ) → at ≡ to → lawfulTable T ≡ true → entered T at ≡ passed T
+  unfolding checkedAt
+  entered-lawful T at h e = entered-end T at h ∙ rw (e, checkedAt)
+
+  pub entered-unlawful : (T : Table) (at : ℕ) → at ≡ to → lawfulTable T ≡ false → entered T at ≡ refused 10 to
+  unfolding checkedAt
+  entered-unlawful T at h e = entered-end T at h ∙ rw (e, checkedAt)
+
+  -- A declaration of `size` tokens at `at`, with its operator at token `place` of it, that makes `change` of the operators in force.
+  pub record DeclarationAt (at : ℕ) (change : Table → Table) (place size : ℕ) : Type 0 where
+    pub within : at + size ≤ to
+    pub inText : getD S (at + place) 0 < longestText
+    pub refuses : (T : Table) → mostOperators < length (change T) → entered T at ≡ refused 9 (at + place)
+    pub passes : (T : Table) → length (change T) ≤ mostOperators → entered T at ≡ entered (change T) (at + size)
+    pub distinct : (T : Table) → Distinct T → Distinct (change T)
+
+  pub record RoleAt (at f role : ℕ) : Type 0 where
+    pub isRole : 0 < role
+    pub declared : Role
+    pub coded : roleOf role ≡ some declared
+    pub step : DeclarationAt at (declareRole (nameAt (at + 3)) (fixityOf f) declared) 3 5
+
+  module _ (at : ℕ) (h : at < to) (inText : InText S at to) where
+    declaration-at :
+        (d : Declaration) (rest : List Token) → declaration (tokensAt at) ≡ parsed d rest
+        → DeclarationAt at (λ T. declare T d) (operatorPlace d) (length (declarationTokens d))
+    unfolding declareAll
+    declaration-at d rest e =
+        record {
+          within = omega (arith, behind .0);
+          inText = inText (at + operatorPlace d) (omega arith) (omega (arith, behind .0, operator-within d));
+          refuses = λ T g. step T ∙ rw (lt-leb _ _ g) refl;
+          passes = λ T g. step T ∙ rw (le-leb _ _ g) (further T);
+          distinct = λ T g. distinct-declared T (d ∷ []) g;
+        }
+      where
+        size : ℕ
+        size = length (declarationTokens d)
+
+        behind : (size ≤ to - at) × (rest ≡ tokensFrom text K S Z (at + size) (to - at - size))
+        behind = run-behind text K S Z (declarationTokens d) at (to - at) rest (declaration-sound (tokensAt at) d rest e .0)
+
+        step :
+            (T : Table) → entered T at
+            ≡ elim (leb (length (declare T d)) mostOperators) [
+              | true ↦ enter (to - suc at) (declare T d) (at + size) rest
+              | false ↦ refused 9 (at + operatorPlace d)
+            ]
+        step T =
+            let k : to - at ≡ suc (to - suc at) = omega arith in
+            ap (λ k. enter k T at (tokensAt at)) k ∙ enter-step (to - suc at) T at (tokensAt at) e
+
+        further : (T : Table) → enter (to - suc at) (declare T d) (at + size) rest ≡ entered (declare T d) (at + size)
+        further T =
+            let r : rest ≡ tokensAt (at + size) = behind .1 ∙ ap (tokensFrom text K S Z (at + size)) (omega arith) in
+            let l = run-length text K S Z (at + size) (to - (at + size)) in
+            let w = operator-within d in
+            ap (enter (to - suc at) (declare T d) (at + size)) r
+            ∙ enter-fuel (to - suc at) (to - (at + size)) (declare T d) (at + size) (tokensAt (at + size)) (omega arith) (omega arith)
+
+    -- A role that is declared ..
+    pub role-at : (f role : ℕ) → codedParsed (declaration (tokensAt at)) ≡ P.Role f role → RoleAt at f role
+    unfolding codedParsed codedDeclaration declare operatorPlace declarationTokens
+    role-at f role = go (declaration (tokensAt at)) refl
+      where
+        go : (p : D.Parsed) → declaration (tokensAt at) ≡ p → codedParsed p ≡ P.Role f role → RoleAt at f role
+        go (unfit n) e c = let z : _≡_ {A = ℕ} 0 1 = cc in absurd (omega arith)
+        go (parsed (clears m) rest) e c = let z : _≡_ {A = ℕ} 0 1 = cc in absurd (omega arith)
+        go (parsed (declares g a v m) rest) e c =
+            let w = declaration-at (declares g a v m) rest e in
+            let k : value v * 4 + associativityCode a ≡ role = cc in
+            let x : g ≡ fixityOf f = sym (fixity-back g) ∙ ap fixityOf (cc) in
+            let n : m ≡ nameAt (at + 3) =
+            symbol-behind text K S Z (symbol _ ∷ symbol _ ∷ number v ∷ []) at (to - at) m (semicolon ∷ rest)
+            (declaration-sound (tokensAt at) (declares g a v m) rest e .0)
+            ∙ sym (name-in-text text (getD S (at + 3) 0) (getD Z (at + 3) 0) (w .inText)) in
+            let q : Role = record { precedence = value v; associativity = a } in
+            record {
+              isRole = omega (arith, associativity-back a .0);
+              declared = q;
+              coded = ap roleOf (sym k) ∙ role-back (value v) a;
+              step = subst (λ change. DeclarationAt at change 3 5) (λ i T. declareRole (n i) (x i) q T) w;
+            }
+
+    -- .. and one that is cleared.
+    pub clears-at : codedParsed (declaration (tokensAt at)) ≡ Clears → DeclarationAt at (removeRoles (nameAt (at + 1))) 1 3
+    unfolding codedParsed codedDeclaration declare operatorPlace declarationTokens
+    clears-at = go (declaration (tokensAt at)) refl
+      where
+        go :
+            (p : D.Parsed) → declaration (tokensAt at) ≡ p → codedParsed p ≡ Clears
+            → DeclarationAt at (removeRoles (nameAt (at + 1))) 1 3
+        go (unfit n) e c = let z : _≡_ {A = ℕ} 0 1 = cc in absurd (omega arith)
+        go (parsed (declares g a v m) rest) e c = let z : _≡_ {A = ℕ} 0 1 = cc in absurd (omega arith)
+        go (parsed (clears m) rest) e c =
+            let w = declaration-at (clears m) rest e in
+            let n : m ≡ nameAt (at + 1) =
+            symbol-behind text K S Z (symbol _ ∷ []) at (to - at) m (semicolon ∷ rest)
+            (declaration-sound (tokensAt at) (clears m) rest e .0)
+            ∙ sym (name-in-text text (getD S (at + 1) 0) (getD Z (at + 1) 0) (w .inText)) in
+            subst (λ change. DeclarationAt at change 1 3) (λ i T. removeRoles (n i) T) w

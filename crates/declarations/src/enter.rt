@@ -1,0 +1,104 @@
+// The declarations of a block, one after the other: document 01's refusals 8, 9 and 10.
+use crate::parse;
+use crate::parse::Parsed;
+use scan::tokens;
+use table::Found;
+use table::Table;
+ghost use Prim.Native.Nat.{_-_, _≤_};
+ghost use lib.ListN.{take, drop};
+ghost use Rattle.grammar.specs.Coded.{tokensFrom};
+ghost use Rattle.grammar.specs.Declaration.{enter as enterTokens};
+ghost use Rattle.table.specs.Entries.{tableOf};
+ghost use Rattle.declarations.specs.Entering.{Full, Enterable, Entering};
+
+// The table behind the declarations with number 0, or the number of a refusal and of its token.
+pub struct Entered {
+    pub number: u8,
+    pub at: usize,
+    pub table: Table,
+}
+
+// Whether the table has 64 operators and none of that name.
+fn is_full<'a>(
+    text: &[u8],
+    starts: &'a [u16; 64],
+    sizes: &'a [u8; 64],
+    count: usize,
+    start: u16,
+    size: u8,
+) -> bool
+    requires { ⌜ count ≤ 64 ⌝ }
+    ensures { λ r. ⌜ Full (now (text .entry)) (now (starts .entry)) (now (sizes .entry)) count (take size (drop start (now (text .entry)))) r ⌝ }
+{
+    if count < 64 {
+        return false;
+    }
+    let name = tokens::cut(text, start as usize, size as usize);
+    match table::find(text, starts, sizes, count, name) {
+        Found::At(_) => false,
+        Found::Nothing => true,
+    }
+}
+
+// The declarations of the tokens from `from` to `to`, under the operators of `outer`.
+pub fn enter<'a>(
+    text: &[u8],
+    kinds: &'a [u8; 1024],
+    starts: &'a [u16; 1024],
+    sizes: &'a [u8; 1024],
+    from: usize,
+    to: usize,
+    outer: Table,
+) -> Entered
+    requires { ⌜ Enterable (now text) (now starts) from to outer ⌝ }
+    ensures { λ r. ⌜ Entering (now (text .entry))
+        (enterTokens (to - from) (tableOf (now (text .entry)) outer) from
+        (tokensFrom (now (text .entry)) (now (kinds .entry)) (now (starts .entry)) (now (sizes .entry)) from (to - from)))
+        r ⌝ }
+{
+    let mut t = outer;
+    let mut at = from;
+    while at < to {
+        let d = parse::declaration_at(text, kinds, starts, sizes, at, to);
+        match d {
+            Parsed::Unfit(n) => {
+                return Entered {
+                    number: 8,
+                    at: at + n,
+                    table: t,
+                };
+            }
+            Parsed::Role(f, role) => {
+                let m = at + 3;
+                let count = t.count;
+                if is_full(text, &t.starts, &t.sizes, count, starts[m], sizes[m]) {
+                    return Entered {
+                        number: 9,
+                        at: m,
+                        table: t,
+                    };
+                }
+                t = t.declare(text, starts[m], sizes[m], f, role);
+                at += 5;
+            }
+            Parsed::Clears => {
+                let m = at + 1;
+                t = t.clear(text, starts[m], sizes[m]);
+                at += 3;
+            }
+        }
+    }
+    let count = t.count;
+    if table::all_lawful(&t.prefixes, &t.infixes, &t.postfixes, count) {
+        return Entered {
+            number: 0,
+            at: to,
+            table: t,
+        };
+    }
+    Entered {
+        number: 10,
+        at: to,
+        table: t,
+    }
+}
