@@ -75,6 +75,7 @@ code-role (some r) =
 pub role-code : (o : Option Role) → IsCode (roleCode o)
 role-code o = ap roleCode (code-role o)
 
+-- So is 0, and four times a precedence plus 1, 2 or 3.
 no-role-code : IsCode 0
 unfolding roleCode
 no-role-code = role-code none
@@ -121,7 +122,7 @@ codes-moved xs at n ys m h j = before (ltb j at) refl
     before true e = rw (m .front j (ltb-true j at e)) (h j)
     before false e = behind (ltb-false j at e) (ltb j n) refl
 
--- So it is in a table of the starting operators whose role arrays pass the test, and the steps keep it.
+-- So every number in the role arrays is one: in a table of the starting operators whose arrays pass the test ..
 pub starting-coded :
     (t : Table) → Sized t → areCodes (t .prefixes) ≡ true → areCodes (t .infixes) ≡ true → areCodes (t .postfixes) ≡ true
     → ((text : Bytes) → tableOf text t ≡ start) → Starting t
@@ -132,6 +133,7 @@ starting-coded t s p i q e =
       table = e;
     }
 
+-- .. and after each step.
 module _ (t : Table) (coded : Coded t) where
   pub coded-role : (at : ℕ) (x : Fixity) (code : ℕ) → IsCode code → Coded (withRole t at x code)
   unfolding withRole

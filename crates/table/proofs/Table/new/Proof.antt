@@ -1,4 +1,4 @@
--- The arrays compute to literals, and so do the names and roles that they stand for. Assumes nothing.
+-- The arrays compute to literals, and so do the names and roles that they stand for and the test of their numbers. Assumes nothing.
 use mathlib.Core.Path.{_≡_, refl, ap₂}
 use mathlib.Core.List.{_∷_}
 use native.Mathlib.Omega.{arith}
