@@ -14,7 +14,7 @@ use Rattle.grammar.specs.Nesting.{nesting}
 use Rattle.grammar.specs.Span.{Item, single, pair, scope, itemTokens, items}
 use Rattle.grammar.specs.SpanTree.{SpanTree}
 use Rattle.grammar.specs.Search.{treeOfSpan}
-use Rattle.grammar.specs.Blocks.{bodyTable, Span, itemSpans, allItemSpans, spans, firstWithout}
+use Rattle.grammar.specs.Blocks.{bodyTable, tableBehind, Span, itemSpans, allItemSpans, spans, firstWithout}
 use Rattle.grammar.specs.Claim.{startOf}
 use Rattle.grammar.proofs.ItemsNested.{allItemTokens, ItemNested, AllNested, items-tokens, items-nested}
 
@@ -58,9 +58,9 @@ module _ (inner : Table → Option ℕ → ℕ → List Token → List Span) (or
   items-ordered T i (x ∷ xs) n =
       let e = length-append (itemTokens x) (allItemTokens xs) in
       let j = i + length (itemTokens x) in
-      let later = allItemSpans inner T j xs in
+      let later = allItemSpans inner (tableBehind T x) j xs in
       ascending-append (suc i) (suc j) (suc (i + length (itemTokens x ++ allItemTokens xs))) (itemSpans inner T i x) later (item-ordered T i x (n .0))
-      (ascending-wider later (omega arith) (omega arith) (items-ordered T j xs (n .1)))
+      (ascending-wider later (omega arith) (omega arith) (items-ordered (tableBehind T x) j xs (n .1)))
 
 -- The spans of a span's nested tokens are in order: first itself, then those inside its items.
 pub spans-ordered : (k : ℕ) → Ordered (spans k)

@@ -2,3 +2,4 @@ pub mod Classes
 pub mod Suffixes
 pub mod Fronts
 pub mod Scans
+pub mod Passed
