@@ -85,6 +85,15 @@ words-length s (block ds t) i n = simp length-append (omega (arith, words-length
 words-length s (node l m r) i n =
     simp length-append (omega (arith, words-length s l i n, words-length s r (suc (i + length (flat l))) (n + count l)))
 
+-- A tree has no more nodes than tokens.
+pub count-tokens : (t : Tree) → count t ≤ length (flat t)
+unfolding count flat
+count-tokens nothing = omega arith
+count-tokens (leaf t) = omega arith
+count-tokens (bracket t) = simp length-append (omega (arith, count-tokens t))
+count-tokens (block ds t) = simp length-append (omega (arith, count-tokens t))
+count-tokens (node l m r) = simp length-append (omega (arith, count-tokens l, count-tokens r))
+
 -- What is written over the front of a buffer that is long enough leaves its length.
 over-length : (w b : List ℕ) → length w ≤ length b → length (over w b) ≡ length b
 unfolding over

@@ -15,6 +15,7 @@ use Rattle.grammar.specs.Nesting.{nesting, deepest}
 use Rattle.grammar.specs.Declaration.{start}
 use Rattle.grammar.specs.Tree.{Tree, flat, depth, spanTree, IsTree}
 use Rattle.grammar.specs.Blocks.{checkBlocks}
+use Rattle.grammar.specs.Nodes.{count}
 use Rattle.grammar.specs.Abstract.{abstract, Agree}
 use Rattle.grammar.specs.Canonical.{canonical, canonicalText, joinTokens, NoSpare}
 use Rattle.grammar.specs.Answer.{Reading, Past, tokensOf, readText, readingText, longestText, mostTokens}
@@ -31,6 +32,7 @@ use Rattle.grammar.proofs.CanonicalTokens.{canonical-tokens}
 use Rattle.grammar.proofs.CanonicalAgreement.{canonical-agrees, canonical-plain, canonical-by-agreement, leaves-ok}
 use Rattle.grammar.proofs.TextTree.{tree-unique}
 use Rattle.grammar.proofs.TreeBlocks.{Enters, checked-enters, enters-checked, canonical-enters}
+use Rattle.grammar.proofs.Answers.{count-tokens}
 use Rattle.grammar.proofs.Readings.{reading-tree, tree-read, length-tokens}
 
 -- What is known of the tree of a text that was read.
@@ -154,3 +156,7 @@ same-text a b r q d e =
           (leaves-ok start (r .tree) (f .isTree .inner) (f .plain) (f .tokens))
           (leaves-ok start (q .tree) (g .isTree .inner) (g .plain) (g .tokens)) s)),
     )
+
+-- A text that is read has at most 1,024 nodes.
+pub few-nodes : (text : Bytes) (r : Reading) → readText text ≡ passed r → count (r .tree) ≤ mostTokens
+few-nodes text r e = omega (arith, count-tokens (r .tree), facts text r e .few)
