@@ -13,7 +13,7 @@ use Rattle.grammar.specs.Bytes.{Bytes}
 use Rattle.grammar.specs.Token.{Token, symbol, number, semicolon}
 use Rattle.grammar.specs.Outcome.{Outcome, refused, passed}
 use Rattle.grammar.specs.Operator.{Fixity, Prefix, Infix, Postfix, Associativity, left, right, non, Role, Table, declareRole, removeRoles, lawfulTable, Distinct}
-use Rattle.grammar.specs.Coded.{charactersIn, tokenOf, tokenAt, tokensFrom, fixityOf, fixityCode, associativityOf, associativityCode, roleOf}
+use Rattle.grammar.specs.Coded.{charactersIn, tokenOf, tokenAt, tokensFrom, fixityOf, fixityCode, associativityOf, associativityCode, roleCode, roleOf}
 use Rattle.grammar.specs.Declaration.{
   Declaration,
   declares,
@@ -38,7 +38,7 @@ use Rattle.grammar.specs.Answer.{longestText}
 use Rattle.grammar.proofs.Declarations.{declaration-sound, enter-end, enter-step}
 use Rattle.grammar.proofs.EnterComplete.{enter-fuel, unfit-refused}
 use Rattle.grammar.proofs.Operators.{distinct-declared}
-use Rattle.table.specs.Entries.{nameIn}
+use Rattle.table.specs.Entries.{nameIn, IsCode}
 use Rattle.table.proofs.Laws.{name-in-text}
 use Rattle.table.proofs.Roles.{a-role}
 use Rattle.declarations.specs.declared.parse.Parsed.the-variants.{Unfit, Clears}
@@ -174,6 +174,7 @@ module _ (text : Bytes) (K S Z : List ℕ) (to : ℕ) where
     pub isRole : 0 < role
     pub declared : Role
     pub coded : roleOf role ≡ some declared
+    pub isCode : IsCode role
     pub step : DeclarationAt at (declareRole (nameAt (at + 3)) (fixityOf f) declared) 3 5
 
   module _ (at : ℕ) (h : at < to) (inText : InText S at to) where
@@ -216,7 +217,7 @@ module _ (text : Bytes) (K S Z : List ℕ) (to : ℕ) where
 
     -- A role that is declared ..
     pub role-at : (f role : ℕ) → codedParsed (declaration (tokensAt at)) ≡ P.Role f role → RoleAt at f role
-    unfolding codedParsed codedDeclaration declare operatorPlace declarationTokens
+    unfolding codedParsed codedDeclaration declare operatorPlace declarationTokens roleCode
     role-at f role = go (declaration (tokensAt at)) refl
       where
         go : (p : D.Parsed) → declaration (tokensAt at) ≡ p → codedParsed p ≡ P.Role f role → RoleAt at f role
@@ -235,6 +236,7 @@ module _ (text : Bytes) (K S Z : List ℕ) (to : ℕ) where
               isRole = omega (arith, associativity-back a .0);
               declared = q;
               coded = ap roleOf (sym k) ∙ role-back (value v) a;
+              isCode = subst (λ c. IsCode c) k (ap roleCode (role-back (value v) a));
               step = subst (λ change. DeclarationAt at change 3 5) (λ i T. declareRole (n i) (x i) q T) w;
             }
 

@@ -14,7 +14,7 @@ use Rattle.grammar.specs.Operator.{Role, declareRole, removeRoles, lawfulTable,
 use Rattle.grammar.specs.Operator as G
 use Rattle.grammar.specs.Coded.{fixityOf}
 use Rattle.grammar.specs.Declaration.{mostOperators}
-use Rattle.table.specs.Entries.{nameIn, tableOf, Sized, AllLawful, Declarable, Declared, Clearable, Cleared}
+use Rattle.table.specs.Entries.{nameIn, tableOf, Sized, Coded, AllLawful, Declarable, Declared, Clearable, Cleared}
 use Rattle.table.specs.declared.Table.{Table}
 use Rattle.table.proofs.Laws.{name-in-text}
 use Rattle.declarations.specs.declared.enter.Entered.{Entered}
@@ -32,6 +32,7 @@ module _ (text : Bytes) (K S Z : List ℕ) (from to : ℕ) where
     pub high : at ≤ to
     pub sized : Sized t
     pub distinct : Distinct (tableOf text t)
+    pub coded : Coded t₀ → Coded t
     pub answered : answer t₀ from ≡ answer t at
 
 module _ {text : Bytes} {K S Z : List ℕ} {from to : ℕ} {t₀ t : Table} {at : ℕ} (inv : Progress text K S Z from to t₀ t at) where
@@ -44,14 +45,17 @@ module _ {text : Bytes} {K S Z : List ℕ} {from to : ℕ} {t₀ t : Table} {at 
 
   -- A declaration is passed over: the operators are those that it leaves in force.
   module _ {change : G.Table → G.Table} {place size : ℕ} (step : DeclarationAt text K S Z to at change place size) where
-    passed-over : (u : Table) → Sized u → tableOf text u ≡ change (tableOf text t) → Progress text K S Z from to t₀ u (at + size)
-    passed-over u s e =
+    passed-over :
+        (u : Table) → Sized u → (Coded t → Coded u) → tableOf text u ≡ change (tableOf text t)
+        → Progress text K S Z from to t₀ u (at + size)
+    passed-over u s d e =
         let c = table-count text u in
         let l = ap length e in
         record {
           low = omega arith;
           high = step .within;
           sized = s;
+          coded = λ h. d (inv .coded h);
           distinct = rw e (step .distinct (tableOf text t) (inv .distinct));
           answered = inv .answered ∙ step .passes (tableOf text t) (omega arith) ∙ ap (λ T. entered text K S Z to T (at + size)) (sym e);
         }
@@ -65,7 +69,7 @@ module _ {text : Bytes} {K S Z : List ℕ} {from to : ℕ} {t₀ t : Table} {at 
     size = getD Z (at + 3) 0
 
     pub declared-over : (u : Table) → Declared text t start size f code u → Progress text K S Z from to t₀ u (at + 5)
-    declared-over u d = passed-over (role .step) u (d .sized) (d .table (role .declared) (role .coded))
+    declared-over u d = passed-over (role .step) u (d .sized) (λ h. d .coded h (role .isCode)) (d .table (role .declared) (role .coded))
 
     module _ (r : Bool) (full : Full text (t .starts) (t .sizes) (t .count) (take size (drop start text)) r) where
       counted :
@@ -94,7 +98,7 @@ module _ {text : Bytes} {K S Z : List ℕ} {from to : ℕ} {t₀ t : Table} {at 
     clearable = record { sized = inv .sized; inText = step .inText; distinct = inv .distinct }
 
     pub cleared-over : (u : Table) → Cleared text t (getD S (at + 1) 0) (getD Z (at + 1) 0) u → Progress text K S Z from to t₀ u (at + 3)
-    cleared-over u d = passed-over step u (d .sized) (d .table)
+    cleared-over u d = passed-over step u (d .sized) (d .coded) (d .table)
 
   -- Behind the last declaration.
   module _ (h : to ≤ at) (r : Bool) (lawful : AllLawful (t .prefixes) (t .infixes) (t .postfixes) (t .count) r) where

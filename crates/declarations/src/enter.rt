@@ -8,7 +8,7 @@ ghost use Prim.Native.Nat.{_-_, _≤_};
 ghost use lib.ListN.{take, drop};
 ghost use Rattle.grammar.specs.Coded.{tokensFrom};
 ghost use Rattle.grammar.specs.Declaration.{enter as enterTokens};
-ghost use Rattle.table.specs.Entries.{tableOf};
+ghost use Rattle.table.specs.Entries.{tableOf, Coded};
 ghost use Rattle.declarations.specs.Entering.{Full, Enterable, Entering};
 
 // The table behind the declarations with number 0, or the number of a refusal and of its token.
@@ -51,10 +51,11 @@ pub fn enter<'a>(
     outer: Table,
 ) -> Entered
     requires { ⌜ Enterable (now text) (now starts) from to outer ⌝ }
-    ensures { λ r. ⌜ Entering (now (text .entry))
+    ensures entered { λ r. ⌜ Entering (now (text .entry))
         (enterTokens (to - from) (tableOf (now (text .entry)) outer) from
         (tokensFrom (now (text .entry)) (now (kinds .entry)) (now (starts .entry)) (now (sizes .entry)) from (to - from)))
         r ⌝ }
+    ensures coded { λ r. ⌜ (Coded outer → Coded (r .table)) ⌝ }
 {
     let mut t = outer;
     let mut at = from;

@@ -68,7 +68,7 @@ clears c =
 
 loop-holds : tie.Need-loop-holds Inv-loop μ-loop
 loop-holds c =
-    record { low = omega arith; high = c .before .pre .ordered; sized = c .before .pre .sized; distinct = c .before .pre .distinct; answered = refl }
+    record { low = omega arith; high = c .before .pre .ordered; sized = c .before .pre .sized; distinct = c .before .pre .distinct; coded = λ h. h; answered = refl }
 
 declaration-at-requires : tie.Need-declaration-at-requires Inv-loop μ-loop
 declaration-at-requires c κs = search needs
@@ -83,9 +83,12 @@ add-t19 c =
 
 returns : tie.Need-returns Inv-loop μ-loop
 returns c =
-    let d = c .before .before .before in
-    answers (head d .loop .inv) _
-    (entered-unfit _ _ _ _ _ _ _ _ (d .before .loop-test .taken) (sym (d .declaration-at .ensures) ∙ c .before .d .given .1)) (refl, refl)
+    let d = c .before .before .before in (
+      answers (head d .loop .inv) _
+          (entered-unfit _ _ _ _ _ _ _ _ (d .before .loop-test .taken) (sym (d .declaration-at .ensures) ∙ c .before .d .given .1))
+          (refl, refl),
+      head d .loop .inv .coded,
+    )
 
 enum-known-d-2 : tie.Need-enum-known-d-2 Inv-loop μ-loop
 enum-known-d-2 c = search needs
@@ -108,9 +111,11 @@ is-full-requires c κs = search needs
 returns-2 : tie.Need-returns-2 Inv-loop μ-loop
 returns-2 c =
     let d = atRole (c .before) in
-    let h = head (d .before .before) in
-    answers (h .loop .inv) _
-    (overfull (h .loop .inv) _ _ (role d) _ (c .before .is-full .ensures) (c .if1 .taken)) (refl, refl)
+    let h = head (d .before .before) in (
+      answers (h .loop .inv) _
+          (overfull (h .loop .inv) _ _ (role d) _ (c .before .is-full .ensures) (c .if1 .taken)) (refl, refl),
+      h .loop .inv .coded,
+    )
 
 mul-declare : tie.Need-mul-declare Inv-loop μ-loop
 mul-declare c = omega (arith, role (atRole (c .before)) .step .within)
@@ -175,16 +180,20 @@ all-lawful-requires c κs = search needs
 returns-3 : tie.Need-returns-3 Inv-loop μ-loop
 returns-3 c =
     let l = c .before .before .before .before .before .before in
-    let inv = l .before .loop .inv in
-    answers inv _
-    (lawful-passes inv (l .loop-test .left) _ (c .before .all-lawful .ensures) (c .if2 .taken)) (refl, inv .sized, refl)
+    let inv = l .before .loop .inv in (
+      answers inv _
+          (lawful-passes inv (l .loop-test .left) _ (c .before .all-lawful .ensures) (c .if2 .taken)) (refl, inv .sized, refl),
+      inv .coded,
+    )
 
 returns-4 : tie.Need-returns-4 Inv-loop μ-loop
 returns-4 c =
     let l = c .before .before .before .before .before .before in
-    let inv = l .before .loop .inv in
-    answers inv _
-    (unlawful-refuses inv (l .loop-test .left) _ (c .before .all-lawful .ensures) (c .if2 .left)) (refl, refl)
+    let inv = l .before .loop .inv in (
+      answers inv _
+          (unlawful-refuses inv (l .loop-test .left) _ (c .before .all-lawful .ensures) (c .if2 .left)) (refl, refl),
+      inv .coded,
+    )
 
 pub enter-spec : {M : Type 1} → statement M
 enter-spec =
