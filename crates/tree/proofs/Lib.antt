@@ -1,0 +1,7 @@
+pub mod Nodes
+pub mod Over
+pub mod Covers
+pub mod Words
+pub mod Entries
+pub mod Steps
+pub mod Spans
