@@ -1,3 +1,4 @@
 pub mod Classes
 pub mod Numbers
+pub mod SpanRoles
 pub mod Turns
