@@ -5,3 +5,5 @@ pub mod Words
 pub mod Entries
 pub mod Steps
 pub mod Spans
+pub mod TokenWords
+pub mod TreeWords

@@ -148,12 +148,12 @@ module _ (A : Arrays) where
       omega (arith, length-append l (r ++ o), length-append r o, n)
 
   -- The words of a part by its root.
-  range-item : (k i : ℕ) (ns : List ℕ) (base : ℕ) → length (i ∷ ns) ≤ rootOf (i ∷ ns)
+  pub range-item : (k i : ℕ) (ns : List ℕ) (base : ℕ) → length (i ∷ ns) ≤ rootOf (i ∷ ns)
       → rangeIn A (suc k) (i ∷ ns) base ≡ itemWords A (rangeIn A k) i base
   unfolding rangeIn
   range-item k i ns base l = rw (le-leb _ _ l, rangeIn)
 
-  range-operator : (k i : ℕ) (ns : List ℕ) (base : ℕ) → rootOf (i ∷ ns) < length (i ∷ ns)
+  pub range-operator : (k i : ℕ) (ns : List ℕ) (base : ℕ) → rootOf (i ∷ ns) < length (i ∷ ns)
       → rangeIn A (suc k) (i ∷ ns) base ≡ operatorWords A (rangeIn A k) (i ∷ ns) (rootOf (i ∷ ns)) base
   unfolding rangeIn
   range-operator k i ns base l = rw (lt-leb _ _ l, rangeIn)

@@ -1,0 +1,224 @@
+-- What the arrays of a text's tokens say of the items of a span under the operators in force: each item's roles are those of its token,
+-- and the tokens of content stand in the text, so a leaf's words are those of its token.
+use mathlib.Core.Path.{_≡_, refl, sym, ap, _∙_}
+use mathlib.Core.Bool.{Bool, true, false}
+use mathlib.Core.Option.{none, some}
+use mathlib.Core.List.{List, [], _∷_, _++_}
+use Prim.Native.Nat.{ℕ, zero, suc, _+_, _-_, _≤_, _<_}
+use native.Mathlib.Omega.{arith}
+use lib.ListN.{length, getD, take, drop, length-append, length-take, length-drop}
+use borrow.Author.Tests.{eq-eqb, ne-eqb}
+use Rattle.grammar.specs.Bytes.{Bytes}
+use Rattle.grammar.specs.Token.{Token, symbol, number, quoted, closing, keywordIn, keywordEnd}
+use Rattle.grammar.specs.Operator.{Table, role, hasRole, inForce}
+use Rattle.grammar.specs.Declaration.{declarations, allTokens}
+use Rattle.grammar.specs.Span.{Item, single, pair, scope, itemTokens, items}
+use Rattle.grammar.specs.Coded.{tokenOf, tokenAt, charactersIn}
+use Rattle.grammar.specs.Blocks.{bodyTable}
+use Rattle.grammar.specs.Tree.{leaf}
+use Rattle.grammar.specs.Nodes.{nodeWords, leafKind, charactersOffset, characters, words}
+use Rattle.grammar.proofs.ItemsNested.{allItemTokens}
+use Rattle.nesting.specs.Paired.{IsContentKind, IsQuietKind, Paired, done, content, bracket, block}
+use Rattle.nesting.proofs.PairedItems.{range, length-range, items-done, items-content, items-bracket, items-block}
+use Rattle.grammar.specs.SpanTree.{isOperand, isOperandToken}
+use Rattle.grammar.specs.Search.{symbolAt, operatorAt}
+use Rattle.search.specs.Slots.{slotOf}
+use Rattle.search.proofs.Bridge.{Known, AllKnown}
+use Rattle.tree.specs.Built.{Arrays, slotOfToken, tokenNode}
+
+abbrev pub tokens : Arrays → Bytes → ℕ → ℕ → List Token
+tokens A text i to = range text (A .kinds) (A .starts) (A .sizes) i to
+
+abbrev pub token : Arrays → Bytes → ℕ → Token
+token A text i = tokenAt text (A .kinds) (A .starts) (A .sizes) i
+
+-- A token of content that stands in the text; a quoted name has its two quotes.
+pub record Stands (A : Arrays) (text : Bytes) (i : ℕ) : Type 0 where
+  pub isContent : IsContentKind (getD (A .kinds) i 0)
+  pub inText : getD (A .starts) i 0 + getD (A .sizes) i 0 ≤ length text
+  pub quotes : getD (A .kinds) i 0 ≡ 3 → 2 ≤ getD (A .sizes) i 0
+
+-- The tokens from number `i` to number `to` are paired, and the roles of the first token of each item are those that the item has under
+-- the operators in force; so within bracket pairs, and within blocks under the operators of their bodies.
+pub data Agrees (A : Arrays) (text : Bytes) : Table → ℕ → ℕ → Type 0 where
+  ends : {T : Table} {to : ℕ} → Agrees A text T to to
+  leaves : {T : Table} {i to : ℕ} → i < to → Stands A text i → slotOfToken A i ≡ slotOf T (single (token A text i))
+      → Agrees A text T (suc i) to → Agrees A text T i to
+  brackets :
+      {T : Table} {i to : ℕ} (c : ℕ) → getD (A .kinds) i 0 ≡ 4 → getD (A .closes) i 0 ≡ c → i < c → c < to → getD (A .kinds) c 0 ≡ 5
+      → slotOfToken A i ≡ slotOf T (pair (tokens A text (suc i) c)) → Agrees A text T (suc i) c → Agrees A text T (suc c) to
+      → Agrees A text T i to
+  blocks :
+      {T : Table} {i to : ℕ} (c e : ℕ) → getD (A .kinds) i 0 ≡ 7 → getD (A .closes) i 0 ≡ c → getD (A .closes) c 0 ≡ e → i < c → c < e
+      → e < to → getD (A .kinds) c 0 ≡ 8 → getD (A .kinds) e 0 ≡ 9
+      → ((j : ℕ) → i < j → j < c → IsQuietKind (getD (A .kinds) j 0))
+      → slotOfToken A i ≡ slotOf T (scope (tokens A text (suc i) c) (tokens A text (suc c) e))
+      → allTokens (declarations (tokens A text (suc i) c)) ≡ tokens A text (suc i) c
+      → Agrees A text (bodyTable T (tokens A text (suc i) c)) (suc c) e → Agrees A text T (suc e) to → Agrees A text T i to
+
+module _ (A : Arrays) (text : Bytes) where
+  pub agrees-paired : {T : Table} {i to : ℕ} → Agrees A text T i to → Paired (A .kinds) (A .closes) i to
+  agrees-paired ends = done
+  agrees-paired (leaves l h s p) = content l (h .isContent) (agrees-paired p)
+  agrees-paired (brackets c k w l m y s p q) = bracket c k w l m y (agrees-paired p) (agrees-paired q)
+  agrees-paired (blocks c e k w v l m n y z f s d p q) = block c e k w v l m n y z f (agrees-paired p) (agrees-paired q)
+
+  -- What that says of one item that begins at token `i`.
+  pub record PairFits (T : Table) (i : ℕ) (ts : List Token) : Type 0 where
+    pub close : ℕ
+    pub isOpening : getD (A .kinds) i 0 ≡ 4
+    pub closes : getD (A .closes) i 0 ≡ close
+    pub before : i < close
+    pub inside : ts ≡ tokens A text (suc i) close
+    pub agrees : Agrees A text T (suc i) close
+
+  pub record ScopeFits (T : Table) (i : ℕ) (ds ts : List Token) : Type 0 where
+    pub middle : ℕ
+    pub close : ℕ
+    pub isLet : getD (A .kinds) i 0 ≡ 7
+    pub opens : getD (A .closes) i 0 ≡ middle
+    pub closes : getD (A .closes) middle 0 ≡ close
+    pub before : i < middle
+    pub between : middle < close
+    pub declared : ds ≡ tokens A text (suc i) middle
+    pub complete : allTokens (declarations ds) ≡ ds
+    pub inside : ts ≡ tokens A text (suc middle) close
+    pub agrees : Agrees A text (bodyTable T ds) (suc middle) close
+
+  abbrev pub ItemFits : Table → ℕ → Item → Type 0
+  ItemFits T i (single t) = Stands A text i × (t ≡ token A text i)
+  ItemFits T i (pair ts) = PairFits T i ts
+  ItemFits T i (scope ds ts) = ScopeFits T i ds ts
+
+  abbrev pub AllFit : Table → ℕ → List Item → Type 0
+  AllFit T i [] = Unit {0}
+  AllFit T i (x ∷ xs) = (slotOfToken A i ≡ slotOf T x) × ItemFits T i x × AllFit T (i + length (itemTokens x)) xs
+
+  -- The items of a span that agrees fit, and they take its tokens.
+  abbrev Fitting : Table → ℕ → ℕ → List Item → Type 0
+  Fitting T i to xs = AllFit T i xs × (i + length (allItemTokens xs) ≡ to)
+
+  fit-next : (T : Table) (i j to : ℕ) (x : Item) (xs : List Item) → slotOfToken A i ≡ slotOf T x → ItemFits T i x
+      → i + length (itemTokens x) ≡ j → Fitting T j to xs → Fitting T i to (x ∷ xs)
+  unfolding allItemTokens
+  fit-next T i j to x xs s h e f =
+      ((s, h, rw e (f .0)), omega (arith, e, f .1, length-append (itemTokens x) (allItemTokens xs)))
+
+  fitting : {T : Table} {i to : ℕ} → Agrees A text T i to → Fitting T i to (items (tokens A text i to))
+  unfolding allItemTokens itemTokens
+  fitting (ends {to = to}) = rw (items-done text (A .kinds) (A .starts) (A .sizes) to) (tt, omega arith)
+  fitting (leaves {T} {i} {to} l h s p) =
+      rw (items-content text (A .kinds) (A .starts) (A .sizes) i to l (h .isContent))
+      (fit-next T i (suc i) to (single (token A text i)) (items (tokens A text (suc i) to)) s (h, refl) (omega arith) (fitting p))
+  fitting (brackets {T} {i} {to} c k w l m y s p q) =
+      let ts = tokens A text (suc i) c in
+      rw (items-bracket text (A .kinds) (A .starts) (A .sizes) i c to k l m y (agrees-paired p))
+      (fit-next T i (suc c) to (pair ts) (items (tokens A text (suc c) to)) s
+      (record { close = c; isOpening = k; closes = w; before = l; inside = refl; agrees = p })
+      (omega (arith, length-append ts (closing ∷ []), length-range text (A .kinds) (A .starts) (A .sizes) (suc i) c))
+      (fitting q))
+  fitting (blocks {T} {i} {to} c e k w v l m n y z f s d p q) =
+      let ds = tokens A text (suc i) c in
+      let ts = tokens A text (suc c) e in
+      rw (items-block text (A .kinds) (A .starts) (A .sizes) i c e to k l m n y z f (agrees-paired p))
+      (fit-next T i (suc e) to (scope ds ts) (items (tokens A text (suc e) to)) s
+      (record {
+        middle = c;
+        close = e;
+        isLet = k;
+        opens = w;
+        closes = v;
+        before = l;
+        between = m;
+        declared = refl;
+        complete = d;
+        inside = refl;
+        agrees = p;
+      })
+      (omega (
+        arith,
+        length-append (ds ++ keywordIn ∷ ts) (keywordEnd ∷ []),
+        length-append ds (keywordIn ∷ ts),
+        length-range text (A .kinds) (A .starts) (A .sizes) (suc i) c,
+        length-range text (A .kinds) (A .starts) (A .sizes) (suc c) e,
+      ))
+      (fitting q))
+
+  pub agrees-fit : {T : Table} {i to : ℕ} → Agrees A text T i to → AllFit T i (items (tokens A text i to))
+  agrees-fit h = fitting h .0
+
+  pub agrees-length : {T : Table} {i to : ℕ} → Agrees A text T i to → i + length (allItemTokens (items (tokens A text i to))) ≡ to
+  agrees-length h = fitting h .1
+
+  -- The words of a leaf, and the length of an operator.
+  cut-length : (at size : ℕ) → at + size ≤ length text → length (take size (drop at text)) ≡ size
+  cut-length at size l = omega (arith, length-take size (drop at text), length-drop at text)
+
+  abbrev offset : ℕ → ℕ
+  offset j = getD (A .starts) j 0
+
+  by-content : {X : Type 0} (i : ℕ) → Stands A text i → (getD (A .kinds) i 0 ≡ 1 → X) → (getD (A .kinds) i 0 ≡ 2 → X)
+      → (getD (A .kinds) i 0 ≡ 3 → X) → X
+  by-content {X} i h a b c = go (getD (A .kinds) i 0) refl
+    where
+      go : (k : ℕ) → getD (A .kinds) i 0 ≡ k → X
+      go zero e = absurd (omega (arith, h .isContent .0))
+      go (suc zero) e = a e
+      go (suc (suc zero)) e = b e
+      go (suc (suc (suc zero))) e = c e
+      go (suc (suc (suc (suc k)))) e = absurd (omega (arith, h .isContent .1))
+
+  abbrev bare : ℕ → Bytes
+  bare i = take (getD (A .sizes) i 0) (drop (offset i) text)
+
+  abbrev unquoted : ℕ → Bytes
+  unquoted i = take (getD (A .sizes) i 0 - 2) (drop (offset i + 1) text)
+
+  -- The token of a kind.
+  token-of : (i k : ℕ) → getD (A .kinds) i 0 ≡ k → token A text i ≡ tokenOf k (charactersIn text k (offset i) (getD (A .sizes) i 0))
+  unfolding tokenAt
+  token-of i k e = rw e
+
+  pub leaf-words : (i base : ℕ) → Stands A text i → tokenNode A i ≡ words (λ j. getD (A .starts) j 0) (leaf (token A text i)) i base
+  unfolding tokenNode words leafKind charactersOffset characters nodeWords tokenOf charactersIn
+  leaf-words i base h =
+      by-content i h
+      (λ e. rw (ne-eqb (getD (A .kinds) i 0) 3 (λ f. omega arith), tokenNode)
+      (rw (ne-eqb (getD (A .kinds) i 0) 2 (λ f. omega arith), token-of i 1 e, cut-length (offset i) (getD (A .sizes) i 0) (h .inText))))
+      (λ e. rw (ne-eqb (getD (A .kinds) i 0) 3 (λ f. omega arith), tokenNode)
+      (rw (eq-eqb (getD (A .kinds) i 0) 2 e, token-of i 2 e, cut-length (offset i) (getD (A .sizes) i 0) (h .inText))))
+      (λ e. rw (eq-eqb (getD (A .kinds) i 0) 3 e, tokenNode)
+      (rw (token-of i 3 e, cut-length (offset i + 1) (getD (A .sizes) i 0 - 2) (omega (arith, h .inText, h .quotes e)))))
+
+  pub symbol-length : (i : ℕ) (m : Bytes) → Stands A text i → token A text i ≡ symbol m → length m ≡ getD (A .sizes) i 0
+  unfolding tokenOf charactersIn
+  symbol-length i m h t =
+      by-content i h
+      (λ e. let z : symbol (bare i) ≡ symbol m = sym (token-of i 1 e) ∙ t in
+      let y : bare i ≡ m = cc in
+      sym (ap length y) ∙ cut-length (offset i) (getD (A .sizes) i 0) (h .inText))
+      (λ e. let z : number (bare i) ≡ symbol m = sym (token-of i 2 e) ∙ t in cc)
+      (λ e. let z : quoted (unquoted i) ≡ symbol m = sym (token-of i 3 e) ∙ t in cc)
+
+  -- Every item of such a span is an operator or an operand.
+  token-known : (T : Table) (i : ℕ) → Stands A text i → Known T (single (token A text i))
+  unfolding operatorAt symbolAt isOperand isOperandToken inForce tokenOf charactersIn
+  token-known T i h =
+      by-content i h
+      (λ e. rw (token-of i 1 e) (word (bare i) (hasRole (role T (bare i))) refl))
+      (λ e. rw (token-of i 2 e) (λ n. refl))
+      (λ e. rw (token-of i 3 e) (λ n. refl))
+    where
+      word : (w : Bytes) (b : Bool) → hasRole (role T w) ≡ b → Known T (single (symbol w))
+      word w true e n = let z : some w ≡ none = rw (e, operatorAt) at n in let y : _≡_ {A = ℕ} 0 1 = cc in absurd (omega arith)
+      word w false e n = rw e
+
+  fit-known : (T : Table) (xs : List Item) (i : ℕ) → AllFit T i xs → AllKnown T xs
+  unfolding isOperand
+  fit-known T [] i h = tt
+  fit-known T (single t ∷ xs) i h = (rw (h .1 .1) (token-known T i (h .1 .0)), fit-known T xs (i + length (itemTokens (single t))) (h .2))
+  fit-known T (pair ts ∷ xs) i h = (λ n. refl, fit-known T xs (i + length (itemTokens (pair ts))) (h .2))
+  fit-known T (scope ds ts ∷ xs) i h = (λ n. refl, fit-known T xs (i + length (itemTokens (scope ds ts))) (h .2))
+
+  pub agrees-known : {T : Table} {i to : ℕ} → Agrees A text T i to → AllKnown T (items (tokens A text i to))
+  agrees-known {T} {i} {to} h = fit-known T (items (tokens A text i to)) i (agrees-fit h)
