@@ -22,10 +22,13 @@ pub mod ItemLists
 pub mod TextTree
 pub mod TextSound
 pub mod Spans
+pub mod NodeCount
 pub mod SpanOrder
 pub mod RefusalNumbers
+pub mod RefusalPlaces
 pub mod Readings
 pub mod TreeBlocks
+pub mod WordsOffsets
 pub mod CanonicalTree
 pub mod CanonicalSize
 pub mod CanonicalTokens

@@ -128,7 +128,7 @@ read-past text r e = go (leb (length text) longestText) refl
     go false q = let f : refused 1 longestText ≡ passed r = rw (q, readText) at e in let z : _≡_ {A = ℕ} 0 1 = cc in absurd (omega arith)
 
 -- Nested tokens are nested wherever they begin.
-nested-tokens : (text : Bytes) (ps : List Placed) → Past text ps → Nested (tokensOf ps)
+pub nested-tokens : (text : Bytes) (ps : List Placed) → Past text ps → Nested (tokensOf ps)
 nested-tokens text ps h i = nesting-anywhere (tokensOf ps) [] 0 i (h .nested)
 
 -- What is read is a tree of the text's own tokens ..

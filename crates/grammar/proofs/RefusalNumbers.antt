@@ -6,7 +6,7 @@ use mathlib.Core.List.{List, [], _∷_}
 use Prim.Native.Nat.{ℕ, zero, suc, _+_, _≤_}
 use native.Mathlib.Omega.{arith}
 use lib.Dec.{leb, ltb, eqb}
-use lib.ListN.{length, take, drop, getD}
+use lib.ListN.{length, drop, getD}
 use Rattle.grammar.specs.Bytes.{Bytes}
 use Rattle.grammar.specs.Token.{Token, class, isBlankByte, letter, digit, sign, quote, opens, closes, separates, inQuotes, longestName}
 use Rattle.grammar.specs.Outcome.{Outcome, refused, passed, andThen, placed}
@@ -14,28 +14,40 @@ use Rattle.grammar.specs.Operator.{Table, lawfulTable}
 use Rattle.grammar.specs.Scan.{Placed, run, Front, nothing, wrong, taken, atMost, quotedName, frontOf, front, before, scan}
 use Rattle.grammar.specs.Nesting.{Open, Move, stays, broken, enters, becomes, leaves, move, closeInnermost, deepest, nesting}
 use Rattle.grammar.specs.Declaration.{Parsed, unfit, parsed, declaration, declare, declarationTokens, mostOperators, checkedAt, enter}
-use Rattle.grammar.specs.Span.{Item, single, pair, scope, itemTokens, items}
+use Rattle.grammar.specs.Span.{Item, single, pair, scope, items}
 use Rattle.grammar.specs.Blocks.{checkItem, checkItems, checkBlocks}
 
 module _ {A : Type 0} where
+  -- `P` holds of the number and place of every refusal of the outcome.
+  abbrev pub Refuses : (ℕ → ℕ → Type 0) → Outcome A → Type 0
+  Refuses P (refused n p) = P n p
+  Refuses P (passed a) = Unit {0}
+
+  pub refuses-holds : (P : ℕ → ℕ → Type 0) (o : Outcome A) → Refuses P o → (n p : ℕ) → o ≡ refused n p → P n p
+  refuses-holds P o b n p e = rw e at b
+
   -- Every refusal of the outcome has a number from `low` to `high`.
   abbrev pub Between : ℕ → ℕ → Outcome A → Type 0
-  Between low high (refused n p) = (low ≤ n) × (n ≤ high)
-  Between low high (passed a) = Unit {0}
+  Between low high = Refuses (λ n p. (low ≤ n) × (n ≤ high))
 
   pub between-number : (low high : ℕ) (o : Outcome A) → Between low high o → (n p : ℕ) → o ≡ refused n p → (low ≤ n) × (n ≤ high)
-  between-number low high o b n p e = rw e at b
+  between-number low high = refuses-holds (λ n p. (low ≤ n) × (n ≤ high))
 
   -- A choice between two, whatever the test.
-  choice : (P : A → Type 0) (b : Bool) (x y : A) → P x → P y → P (elim b [ true ↦ x | false ↦ y ])
+  pub choice : (P : A → Type 0) (b : Bool) (x y : A) → P x → P y → P (elim b [ true ↦ x | false ↦ y ])
   choice P true x y p q = p
   choice P false x y p q = q
 
+-- One check after another.
+pub refuses-andThen : {A B : Type 0} (P : ℕ → ℕ → Type 0) (o : Outcome A) (f : A → Outcome B)
+    → Refuses P o → ((a : A) → Refuses P (f a)) → Refuses P (andThen o f)
+unfolding andThen
+refuses-andThen P (refused n p) f b c = b
+refuses-andThen P (passed a) f b c = c a
+
 pub between-andThen : {A B : Type 0} (low high : ℕ) (o : Outcome A) (f : A → Outcome B)
     → Between low high o → ((a : A) → Between low high (f a)) → Between low high (andThen o f)
-unfolding andThen
-between-andThen low high (refused n p) f b c = b
-between-andThen low high (passed a) f b c = c a
+between-andThen low high = refuses-andThen (λ n p. (low ≤ n) × (n ≤ high))
 
 pub between-placed : {A : Type 0} (low high : ℕ) (f : ℕ → ℕ) (o : Outcome A) → Between low high o → Between low high (placed f o)
 unfolding placed

@@ -6,4 +6,3 @@ pub mod Closers
 pub mod PairedTokens
 pub mod PairedItems
 pub mod PairedCases
-pub mod PairedSpans

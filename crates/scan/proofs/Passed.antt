@@ -6,7 +6,7 @@ use mathlib.Core.List.{List, [], _∷_, _++_, map}
 use Prim.Native.Nat.{ℕ, zero, suc, _+_, _≤_, _<_}
 use native.Mathlib.Omega.{arith}
 use lib.ListN.{length, drop, getD, length-append, length-map, List·getD-append}
-use lib.Seq.{sets, sets-eq}
+use lib.Seq.{sets, sets-eq, getD-at}
 use Rattle.grammar.specs.Bytes.{Bytes}
 use Rattle.grammar.specs.Token.{
   isBlankByte,
@@ -32,13 +32,13 @@ use Rattle.grammar.specs.Outcome.{Outcome, refused, passed}
 use Rattle.grammar.specs.Scan.{Placed, run, front, before, scan}
 use Rattle.grammar.specs.Scan as Scan
 use Rattle.grammar.specs.Coded.{kindOf, kindAt, startAt, sizeAt, tokensFrom}
-use Rattle.grammar.specs.Answer.{longestText, mostTokens, tokensOf, startsOf}
+use Rattle.grammar.specs.Answer.{longestText, mostTokens, tokensOf, startsOf, offsetOf}
 use Rattle.grammar.proofs.Logic.{and-left, and-right}
 use Rattle.grammar.proofs.Lists.{All, all-both}
-use Rattle.grammar.proofs.Offsets.{Stands, token-offsets, arrays-tokens}
+use Rattle.grammar.proofs.Offsets.{Stands, Ascend, token-offsets, offsets-ascend, arrays-tokens}
 use Rattle.grammar.proofs.Scanned.{refused-not-passed, scan-tokens}
 use Rattle.scan.specs.declared.tokens.Scanned.{Scanned}
-use Rattle.scan.specs.Tokens.{foundIn, Scanning}
+use Rattle.scan.specs.Tokens.{foundIn, Scanning, Stored}
 
 -- One step of a scan that passes, by the front of the text.
 found-front :
@@ -127,6 +127,25 @@ unfolding startsOf
 starts-map [] = refl
 starts-map (p ∷ ps) = ap (_∷_ (p .start)) (starts-map ps)
 
+starts-length : (ps : List Placed) → length (startsOf ps) ≡ length ps
+starts-length ps = ap length (sym (starts-map ps)) ∙ length-map ps startAt
+
+-- Where each token starts at or behind the end of the one before and the first at or behind `n`, all start at or behind `n`, ..
+ascend-from : (n : ℕ) (ps : List Placed) → Ascend n ps → (j : ℕ) → j < length ps → n ≤ getD (startsOf ps) j 0
+unfolding startsOf
+ascend-from n [] a j h = absurd (omega arith)
+ascend-from n (p ∷ ps) a zero h = a .0
+ascend-from n (p ∷ ps) a (suc j) h = omega (arith, ascend-from (p .start + sizeAt p) ps (a .1) j (omega arith))
+
+-- .. and the offsets ascend.
+ascend-starts :
+    (n : ℕ) (ps : List Placed) → Ascend n ps → (i j : ℕ) → i ≤ j → j < length ps → getD (startsOf ps) i 0 ≤ getD (startsOf ps) j 0
+unfolding startsOf
+ascend-starts n [] a i j l h = absurd (omega arith)
+ascend-starts n (p ∷ ps) a zero j l h = ascend-from (p .start) (p ∷ ps) (omega arith, a .1) j h
+ascend-starts n (p ∷ ps) a (suc i) zero l h = absurd (omega arith)
+ascend-starts n (p ∷ ps) a (suc i) (suc j) l h = ascend-starts (p .start + sizeAt p) ps (a .1) i j (omega arith) (omega arith)
+
 -- Token number `j`, with what holds of every token; each list made of the tokens has there what is made of this one.
 record Numbered (P : Placed → Type 0) (ps : List Placed) (j : ℕ) : Type 0 where
   place : Placed
@@ -139,16 +158,6 @@ numbered P (p ∷ ps) a zero h = record { place = p; holds = a .0; made = λ f. 
 numbered P (p ∷ ps) a (suc j) h =
     let n = numbered P ps (a .1) j (omega arith) in
     record { place = n .place; holds = n .holds; made = n .made }
-
--- The arrays begin with what a scan that has passed found; behind that stands anything.
-pub record Stored (text : Bytes) (ps : List Placed) (K S Z : List ℕ) : Type 0 where
-  pub scanned : scan mostTokens 0 text ≡ passed ps
-  pub kindsBehind : List ℕ
-  pub startsBehind : List ℕ
-  pub sizesBehind : List ℕ
-  pub kinds : K ≡ map kindAt ps ++ kindsBehind
-  pub starts : S ≡ map startAt ps ++ startsBehind
-  pub sizes : Z ≡ map sizeAt ps ++ sizesBehind
 
 -- Stores from number 0 on make the front.
 stores-front :
@@ -240,3 +249,23 @@ module _ {text : Bytes} {ps : List Placed} {K S Z : List ℕ} (v : Stored text p
 
     pub passed-quoted : getD K j 0 ≡ 3 → 2 ≤ getD Z j 0
     passed-quoted e = omega (arith, size, quoted-bytes (token .place .token) (sym kind ∙ e))
+
+  -- Offsets ascend.
+  pub passed-ascend : (i j : ℕ) → i ≤ j → j < length ps → getD S i 0 ≤ getD S j 0
+  passed-ascend i j l h =
+      omega (
+        arith,
+        passed-start i (omega arith),
+        passed-start j h,
+        ascend-starts 0 ps (offsets-ascend mostTokens 0 text ps (v .scanned)) i j l h,
+      )
+
+  -- The offset of a token, or the text's length behind the last one.
+  pub passed-offset : (i : ℕ) → i < length ps → offsetOf text ps i ≡ getD S i 0
+  unfolding offsetOf
+  passed-offset i h =
+      List·getD-append (startsOf ps) (length text ∷ []) 0 i (omega (arith, starts-length ps)) ∙ sym (passed-start i h)
+
+  pub passed-end : offsetOf text ps (length ps) ≡ length text
+  unfolding offsetOf
+  passed-end = getD-at (startsOf ps) (length text) [] 0 (length ps) (starts-length ps)

@@ -67,3 +67,13 @@ pub record Scanning (text K S Z K′ S′ Z′ : List ℕ) (r : Scanned) : Type 
   pub kinds : K′ ≡ sets K 0 (map kindAt (foundIn mostTokens 0 text))
   pub starts : S′ ≡ sets S 0 (map startAt (foundIn mostTokens 0 text))
   pub sizes : Z′ ≡ sets Z 0 (map sizeAt (foundIn mostTokens 0 text))
+
+-- The arrays begin with what a scan that has passed found; behind that stands anything.
+pub record Stored (text : Bytes) (ps : List Placed) (K S Z : List ℕ) : Type 0 where
+  pub scanned : scan mostTokens 0 text ≡ passed ps
+  pub kindsBehind : List ℕ
+  pub startsBehind : List ℕ
+  pub sizesBehind : List ℕ
+  pub kinds : K ≡ map kindAt ps ++ kindsBehind
+  pub starts : S ≡ map startAt ps ++ startsBehind
+  pub sizes : Z ≡ map sizeAt ps ++ sizesBehind

@@ -1,5 +1,4 @@
--- What the arrays of a text's tokens say of the items of a span under the operators in force: each item's roles are those of its token,
--- and the tokens of content stand in the text, so a leaf's words are those of its token.
+-- Of a span whose arrays agree with its items: what holds of each item, and the words of a leaf, which are those of its token.
 use mathlib.Core.Path.{_≡_, refl, sym, ap, _∙_}
 use mathlib.Core.Bool.{Bool, true, false}
 use mathlib.Core.Option.{none, some}
@@ -18,43 +17,14 @@ use Rattle.grammar.specs.Blocks.{bodyTable}
 use Rattle.grammar.specs.Tree.{leaf}
 use Rattle.grammar.specs.Nodes.{nodeWords, leafKind, charactersOffset, characters, words}
 use Rattle.grammar.proofs.ItemsNested.{allItemTokens}
-use Rattle.nesting.specs.Paired.{IsContentKind, IsQuietKind, Paired, done, content, bracket, block}
-use Rattle.nesting.proofs.PairedItems.{range, length-range, items-done, items-content, items-bracket, items-block}
+use Rattle.nesting.specs.Paired.{Paired, done, content, bracket, block}
+use Rattle.nesting.proofs.PairedItems.{length-range, items-done, items-content, items-bracket, items-block}
 use Rattle.grammar.specs.SpanTree.{isOperand, isOperandToken}
 use Rattle.grammar.specs.Search.{symbolAt, operatorAt}
 use Rattle.search.specs.Slots.{slotOf}
 use Rattle.search.proofs.Bridge.{Known, AllKnown}
 use Rattle.tree.specs.Built.{Arrays, slotOfToken, tokenNode}
-
-abbrev pub tokens : Arrays → Bytes → ℕ → ℕ → List Token
-tokens A text i to = range text (A .kinds) (A .starts) (A .sizes) i to
-
-abbrev pub token : Arrays → Bytes → ℕ → Token
-token A text i = tokenAt text (A .kinds) (A .starts) (A .sizes) i
-
--- A token of content that stands in the text; a quoted name has its two quotes.
-pub record Stands (A : Arrays) (text : Bytes) (i : ℕ) : Type 0 where
-  pub isContent : IsContentKind (getD (A .kinds) i 0)
-  pub inText : getD (A .starts) i 0 + getD (A .sizes) i 0 ≤ length text
-  pub quotes : getD (A .kinds) i 0 ≡ 3 → 2 ≤ getD (A .sizes) i 0
-
--- The tokens from number `i` to number `to` are paired, and the roles of the first token of each item are those that the item has under
--- the operators in force; so within bracket pairs, and within blocks under the operators of their bodies.
-pub data Agrees (A : Arrays) (text : Bytes) : Table → ℕ → ℕ → Type 0 where
-  ends : {T : Table} {to : ℕ} → Agrees A text T to to
-  leaves : {T : Table} {i to : ℕ} → i < to → Stands A text i → slotOfToken A i ≡ slotOf T (single (token A text i))
-      → Agrees A text T (suc i) to → Agrees A text T i to
-  brackets :
-      {T : Table} {i to : ℕ} (c : ℕ) → getD (A .kinds) i 0 ≡ 4 → getD (A .closes) i 0 ≡ c → i < c → c < to → getD (A .kinds) c 0 ≡ 5
-      → slotOfToken A i ≡ slotOf T (pair (tokens A text (suc i) c)) → Agrees A text T (suc i) c → Agrees A text T (suc c) to
-      → Agrees A text T i to
-  blocks :
-      {T : Table} {i to : ℕ} (c e : ℕ) → getD (A .kinds) i 0 ≡ 7 → getD (A .closes) i 0 ≡ c → getD (A .closes) c 0 ≡ e → i < c → c < e
-      → e < to → getD (A .kinds) c 0 ≡ 8 → getD (A .kinds) e 0 ≡ 9
-      → ((j : ℕ) → i < j → j < c → IsQuietKind (getD (A .kinds) j 0))
-      → slotOfToken A i ≡ slotOf T (scope (tokens A text (suc i) c) (tokens A text (suc c) e))
-      → allTokens (declarations (tokens A text (suc i) c)) ≡ tokens A text (suc i) c
-      → Agrees A text (bodyTable T (tokens A text (suc i) c)) (suc c) e → Agrees A text T (suc e) to → Agrees A text T i to
+use Rattle.tree.specs.Agreeing.{tokens, token, Stands, Agrees, ends, leaves, brackets, blocks}
 
 module _ (A : Arrays) (text : Bytes) where
   pub agrees-paired : {T : Table} {i to : ℕ} → Agrees A text T i to → Paired (A .kinds) (A .closes) i to

@@ -34,7 +34,8 @@ use Rattle.search.specs.Slots.{slotOf, rootSlot}
 use Rattle.search.proofs.Bridge.{root-slots, root-slots-some}
 use Rattle.tree.specs.Built.{Arrays, slotOfToken, bracketNode, blockNode, operatorNode, itemWords, operatorWords, rangeIn, spanWords}
 use Rattle.tree.proofs.Words.{item-bracket, item-block, item-token, range-item, range-operator}
-use Rattle.tree.proofs.TokenWords.{tokens, token, Agrees, agrees-paired, PairFits, ScopeFits, ItemFits, AllFit, agrees-fit, agrees-length, leaf-words, symbol-length}
+use Rattle.tree.specs.Agreeing.{tokens, token, Agrees}
+use Rattle.tree.proofs.TokenWords.{agrees-paired, PairFits, ScopeFits, ItemFits, AllFit, agrees-fit, agrees-length, leaf-words, symbol-length}
 
 -- What a tree was found from.
 lone-some : (T : Table) (x : Item) (xs : List Item) (s : SpanTree) → lone T x xs ≡ some s → (xs ≡ []) × (s ≡ operand x)

@@ -1,0 +1,62 @@
+-- Checks 1 to 11: what is asked of the arrays at each stage, what is answered, and what the arrays hold of a text that is read.
+use mathlib.Core.Path.{_≡_}
+use mathlib.Core.Bool.{true, false}
+use mathlib.Core.List.{List, []}
+use Prim.Native.Nat.{ℕ, suc, _≤_, _<_}
+use lib.Dec.{ltb}
+use lib.ListN.{length, getD}
+use Rattle.grammar.specs.Bytes.{Bytes}
+use Rattle.grammar.specs.Outcome.{Outcome, refused, passed}
+use Rattle.grammar.specs.Scan.{Placed}
+use Rattle.grammar.specs.Nesting.{nesting}
+use Rattle.grammar.specs.Declaration.{start}
+use Rattle.grammar.specs.Blocks.{checkBlocks}
+use Rattle.grammar.specs.Nodes.{count}
+use Rattle.grammar.specs.Answer.{Reading, tokensOf, offsetOf, longestText, readText}
+use Rattle.scan.specs.Tokens.{Stored}
+use Rattle.nesting.specs.Paired.{Paired}
+use Rattle.tree.specs.Built.{Arrays}
+use Rattle.tree.specs.Building as Building
+use Rattle.tree.specs.Agreeing.{tokens, Agrees}
+use Rattle.analysis.specs.declared.Analysis.{Analysis}
+
+-- After checks 1 to 5: the arrays hold the tokens of the text.
+pub record Tokenized (text : Bytes) (K S Z : List ℕ) (n : ℕ) : Type 0 where
+  pub placed : List Placed
+  pub counted : n ≡ length placed
+  pub short : length text ≤ longestText
+  pub stored : Stored text placed K S Z
+
+-- After checks 6 and 7: and which token closes which.
+pub record Matched (text : Bytes) (K S Z C : List ℕ) (n : ℕ) : Type 0 where
+  pub scanned : Tokenized text K S Z n
+  pub nested : nesting [] 0 (tokensOf (scanned .placed)) ≡ passed tt
+  pub paired : Paired K C 0 n
+
+-- After checks 8 to 10: and the numbers of the roles in force.
+pub record Resolved (text : Bytes) (A : Arrays) (n : ℕ) : Type 0 where
+  pub matched : Matched text (A .kinds) (A .starts) (A .sizes) (A .closes) n
+  pub declared : checkBlocks (suc (length (matched .scanned .placed))) start 0 (tokensOf (matched .scanned .placed)) ≡ passed tt
+  pub agrees : Agrees A text start 0 n
+
+-- The arrays of a text that is read: its tokens with their offsets, and the numbers of the roles in force.
+pub record Ready (text : Bytes) (A : Arrays) (n : ℕ) (r : Reading) : Type 0 where
+  pub counted : n ≡ length (r .tokens)
+  pub few : n ≤ 1024
+  pub tokens : tokens A text 0 n ≡ tokensOf (r .tokens)
+  pub starts : (j : ℕ) → j < n → getD (A .starts) j 0 ≡ offsetOf text (r .tokens) j
+  pub placed : Building.Placed A 0 n
+  pub agrees : Agrees A text start 0 n
+
+-- The offset of token number `i` by the arrays; behind the last token stands the end of the text.
+unfoldable pub offsetIn : Bytes → List ℕ → ℕ → ℕ → ℕ
+offsetIn text S n i = elim (ltb i n) [ true ↦ getD S i 0 | false ↦ length text ]
+
+-- What is answered: 01's number and place of a refusal; or 0, the number of tokens and that of nodes, with the arrays of the reading.
+-- (What the arrays hold after a refusal is not said: nobody reads them.)
+abbrev pub Outcomes : Bytes → Arrays → Analysis → Outcome Reading → Type 0
+Outcomes text A a (refused n p) = (a .number ≡ n) × (a .offset ≡ p)
+Outcomes text A a (passed r) = (a .number ≡ 0) × (a .nodes ≡ count (r .tree)) × Ready text A (a .tokens) r
+
+abbrev pub Analysed : Bytes → Arrays → Analysis → Type 0
+Analysed text A a = Outcomes text A a (readText text)

@@ -1,0 +1,3 @@
+pub mod Openers
+pub mod Agreed
+pub mod Steps
