@@ -65,7 +65,7 @@ tokens-between text ps =
     spans-between text ps (firstWithout (spans (suc (length ps)) start none 0 (tokensOf ps)))))
 
 -- Checks 1 to 11 give the numbers 1 to 11.
-read-between : (text : Bytes) → Between 1 11 (readText text)
+pub read-between : (text : Bytes) → Between 1 11 (readText text)
 unfolding readText
 read-between text = go (leb (length text) longestText)
   where

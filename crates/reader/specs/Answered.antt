@@ -1,0 +1,25 @@
+-- What the services answer and leave in the lent buffer, by document 01's answer and the definitions of the services.
+use mathlib.Core.Path.{_≡_}
+use mathlib.Core.List.{List}
+use Prim.Native.Nat.{ℕ, _+_, _*_}
+use lib.ListN.{take, drop, getD}
+use Rattle.grammar.specs.Bytes.{Bytes}
+use Rattle.grammar.specs.Answer as G
+use Rattle.reader.specs.declared.Answer.{Answer}
+
+-- "The answer is (number, place, count)."
+unfoldable pub answerOf : Answer → G.Answer
+answerOf a = record { number = a .number; offset = a .offset; count = a .count }
+
+-- The answer and the contents of the buffer afterwards.
+unfoldable pub resultOf : Answer → List ℕ → G.Result
+resultOf a buffer = record { answer = answerOf a; buffer = buffer }
+
+-- Reading: the text, the node table before and after, the answer.
+abbrev pub Reads : Bytes → List ℕ → List ℕ → Answer → Type 0
+Reads text table table′ a = resultOf a table′ ≡ G.read text table
+
+-- "Offset and length give the name's characters, the number's digits or the operator's mark": the part of the text that node number
+-- `i` gives. A node that is not there gives none of it.
+unfoldable pub nodeCharacters : Bytes → List ℕ → ℕ → Bytes
+nodeCharacters text table i = take (getD table (i * 5 + 4) 0) (drop (getD table (i * 5 + 3) 0) text)
