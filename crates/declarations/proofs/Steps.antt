@@ -30,6 +30,7 @@ use Rattle.grammar.specs.Declaration.{
   declaration,
   operatorPlace,
   mostOperators,
+  hasRoom,
   checkedAt,
   enter,
 }
@@ -181,13 +182,13 @@ module _ (text : Bytes) (K S Z : List ℕ) (to : ℕ) where
     declaration-at :
         (d : Declaration) (rest : List Token) → declaration (tokensAt at) ≡ parsed d rest
         → DeclarationAt at (λ T. declare T d) (operatorPlace d) (length (declarationTokens d))
-    unfolding declareAll
+    unfolding declareAll hasRoom
     declaration-at d rest e =
         record {
           within = omega (arith, behind .0);
           inText = inText (at + operatorPlace d) (omega arith) (omega (arith, behind .0, operator-within d));
-          refuses = λ T g. step T ∙ rw (lt-leb _ _ g) refl;
-          passes = λ T g. step T ∙ rw (le-leb _ _ g) (further T);
+          refuses = λ T g. step T ∙ rw (lt-leb _ _ g, hasRoom) refl;
+          passes = λ T g. step T ∙ rw (le-leb _ _ g, hasRoom) (further T);
           distinct = λ T g. distinct-declared T (d ∷ []) g;
         }
       where
@@ -199,7 +200,7 @@ module _ (text : Bytes) (K S Z : List ℕ) (to : ℕ) where
 
         step :
             (T : Table) → entered T at
-            ≡ elim (leb (length (declare T d)) mostOperators) [
+            ≡ elim (hasRoom T d) [
               | true ↦ enter (to - suc at) (declare T d) (at + size) rest
               | false ↦ refused 9 (at + operatorPlace d)
             ]

@@ -30,10 +30,10 @@ pub fn precedence(digits: &[u8]) -> u16
         }
         i += 1;
     }
-    if 1200 < v {
-        return 0;
+    if v < 1201 {
+        return v;
     }
-    v
+    0
 }
 
 // 1 infix, 2 prefix, 3 postfix, 0 none of them.

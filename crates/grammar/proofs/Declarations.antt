@@ -66,7 +66,7 @@ use Rattle.grammar.specs.Declaration.{
   firstWord,
   declaration,
   operatorPlace,
-  mostOperators,
+  hasRoom,
   checkedAt,
   enter,
   declarationsOf,
@@ -291,10 +291,15 @@ unfolding enter declarationTokens
 enter-unfed T i (declares f a c m) rest U e = no-pass e
 enter-unfed T i (clears m) rest U e = no-pass e
 
+-- Room for a declaration depends on what it leaves only.
+room-alike : (T : Table) (d d′ : Declaration) → declare T d ≡ declare T d′ → hasRoom T d ≡ hasRoom T d′
+unfolding hasRoom
+room-alike T d d′ e = rw e
+
 pub enter-step :
     (k : ℕ) (T : Table) (i : ℕ) (ts : List Token) {d : Declaration} {rest : List Token} → declaration ts ≡ parsed d rest
     → enter (suc k) T i ts
-    ≡ elim (leb (length (declare T d)) mostOperators) [
+    ≡ elim (hasRoom T d) [
       | true ↦ enter k (declare T d) (i + length (declarationTokens d)) rest
       | false ↦ refused 9 (i + operatorPlace d)
     ]
@@ -313,7 +318,7 @@ enterOf-sound zero T i (t ∷ ts) U e = absurd (no-pass e)
 enterOf-sound (suc k) T i [] U e = let (p, q) = checked-sound i T U e in (refl, refl, sym p, q)
 enterOf-sound (suc k) T i (t ∷ ts) U e =
     read (declaration (t ∷ ts)) e λ d rest h f.
-    tested no-pass (leb (length (declare T d)) mostOperators) f λ l g.
+    tested no-pass (hasRoom T d) f λ l g.
     let (p, q) = declaration-sound (t ∷ ts) d rest h in
     let (u, v, w, x) = enterOf-sound k (declare T d) (i + length (declarationTokens d)) rest U g in
     rw (declarations-step k (t ∷ ts) h) (ap (_++_ (declarationTokens d)) u ∙ sym p, rw (q, areDeclarations) v, w, x)
@@ -363,12 +368,13 @@ module _
         let r : length (allTokens (map f ds)) ≤ l = omega (arith, tokens-shorter (f d) (allTokens (map f ds))) in
         let before = declaration-of d (allTokens ds) p in
         let after = declaration-of (f d) (allTokens (map f ds)) (allows d ∙ p) in
-        tested no-pass (leb (length (declare T d)) mostOperators)
+        tested no-pass (hasRoom T d)
         (sym (enter-step k T i (declarationTokens d ++ allTokens ds) before) ∙ e) λ s u.
         let i′ = i + length (declarationTokens d) in
         let j′ = j + length (declarationTokens (f d)) in
+        let room = room-alike T (f d) d (changes T d) ∙ s in
         enter-step l T j (declarationTokens (f d) ++ allTokens (map f ds)) after
-        ∙ rw (changes T d) (rw (s, changes T d) (enter-map k l (declare T d) i′ j′ ds U q r u))
+        ∙ rw (room, changes T d) (enter-map k l (declare T d) i′ j′ ds U q r u)
 
 -- Declarations that passed checks 8 to 10 pass them wherever they stand.
 pub enter-anywhere :

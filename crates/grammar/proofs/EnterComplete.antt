@@ -27,6 +27,7 @@ use Rattle.grammar.specs.Declaration.{
   declaration,
   operatorPlace,
   mostOperators,
+  hasRoom,
   checkedAt,
   enter,
 }
@@ -68,7 +69,7 @@ enter-fuel (suc k) (suc l) T i (t ∷ ts) h g = go (declaration (t ∷ ts)) refl
         let s : length rest < length (t ∷ ts) = parsed-shorter (t ∷ ts) d rest e in
         enter-step k T i (t ∷ ts) e
         ∙ ap
-        (λ o. elim (leb (length (declare T d)) mostOperators) [ true ↦ o | false ↦ refused 9 (i + operatorPlace d) ])
+        (λ o. elim (hasRoom T d) [ true ↦ o | false ↦ refused 9 (i + operatorPlace d) ])
         (ih (declare T d) (i + length (declarationTokens d)) rest (omega arith) (omega arith))
         ∙ sym (enter-step l T i (t ∷ ts) e)
 
@@ -77,13 +78,15 @@ enter-fitting :
     (k : ℕ) (T : Table) (i : ℕ) (ts : List Token) (d : Declaration) (rest : List Token) → declaration ts ≡ parsed d rest
     → length (declare T d) ≤ mostOperators
     → enter (suc k) T i ts ≡ enter k (declare T d) (i + length (declarationTokens d)) rest
-enter-fitting k T i ts d rest e h = rw (enter-step k T i ts e, le-leb _ _ h) refl
+unfolding hasRoom
+enter-fitting k T i ts d rest e h = rw (enter-step k T i ts e, le-leb _ _ h, hasRoom) refl
 
 enter-overfull :
     (k : ℕ) (T : Table) (i : ℕ) (ts : List Token) (d : Declaration) (rest : List Token) → length ts ≤ k
     → declaration ts ≡ parsed d rest → mostOperators < length (declare T d) → enter k T i ts ≡ refused 9 (i + operatorPlace d)
+unfolding hasRoom
 enter-overfull zero T i ts d rest h e g = absurd (omega (arith, parsed-shorter ts d rest e))
-enter-overfull (suc k) T i ts d rest h e g = rw (enter-step k T i ts e, lt-leb _ _ g) refl
+enter-overfull (suc k) T i ts d rest h e g = rw (enter-step k T i ts e, lt-leb _ _ g, hasRoom) refl
 
 -- The first of declarations is read first.
 first-parsed :

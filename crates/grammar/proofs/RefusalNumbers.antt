@@ -13,7 +13,7 @@ use Rattle.grammar.specs.Outcome.{Outcome, refused, passed, andThen, pla
 use Rattle.grammar.specs.Operator.{Table, lawfulTable}
 use Rattle.grammar.specs.Scan.{Placed, run, Front, nothing, wrong, taken, atMost, quotedName, frontOf, front, before, scan}
 use Rattle.grammar.specs.Nesting.{Open, Move, stays, broken, enters, becomes, leaves, move, closeInnermost, deepest, nesting}
-use Rattle.grammar.specs.Declaration.{Parsed, unfit, parsed, declaration, declare, declarationTokens, mostOperators, checkedAt, enter}
+use Rattle.grammar.specs.Declaration.{Parsed, unfit, parsed, declaration, declare, declarationTokens, hasRoom, checkedAt, enter}
 use Rattle.grammar.specs.Span.{Item, single, pair, scope, items}
 use Rattle.grammar.specs.Blocks.{checkItem, checkItems, checkBlocks}
 
@@ -141,7 +141,7 @@ enter-step : (k : ℕ) (T : Table) (i : ℕ) (t : Token) (ts : List Token)
 unfolding enter
 enter-step k T i t ts rest (unfit n) e = rw (e, enter) (omega arith)
 enter-step k T i t ts rest (parsed d us) e =
-    rw (e, enter) (choice (Between 8 10) (leb (length (declare T d)) mostOperators) _ _ (rest (declare T d) (i + length (declarationTokens d)) us) (omega arith))
+    rw (e, enter) (choice (Between 8 10) (hasRoom T d) _ _ (rest (declare T d) (i + length (declarationTokens d)) us) (omega arith))
 
 enter-between : (k : ℕ) (T : Table) (i : ℕ) (ts : List Token) → Between 8 10 (enter k T i ts)
 unfolding enter

@@ -35,7 +35,7 @@ use Rattle.grammar.specs.Declaration.{
   firstWord,
   declaration,
   operatorPlace,
-  mostOperators,
+  hasRoom,
   checkedAt,
   enter,
 }
@@ -139,7 +139,7 @@ module _ (m : ℕ) where
       let j = length (declarationTokens d) in
       let n : length (t ∷ ts) ≡ j + length us = ap length (declaration-sound (t ∷ ts) d us e .0) ∙ length-append (declarationTokens d) us in
       rw (e, enter)
-      (choice (Below m) (leb (length (declare T d)) mostOperators) _ _ (rest (declare T d) (i + j) us (omega arith))
+      (choice (Below m) (hasRoom T d) _ _ (rest (declare T d) (i + j) us (omega arith))
       (omega (arith, operator-inside d)))
 
   -- Checks 8 to 10 of declarations refuse at one of their tokens or behind the last one, at the `in`.

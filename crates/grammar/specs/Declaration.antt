@@ -226,6 +226,10 @@ operatorPlace (clears m) = 1
 abbrev pub mostOperators : ℕ
 mostOperators = 64
 
+-- A declaration behind which no more than 64 operators are in force.
+unfoldable pub hasRoom : Table → Declaration → Bool
+hasRoom T d = leb (length (declare T d)) mostOperators
+
 -- Check 10, at the `in` with token number `i`.
 unfoldable pub checkedAt : ℕ → Table → Outcome Table
 checkedAt i T = elim (lawfulTable T) [ true ↦ passed T | false ↦ refused 10 i ]
@@ -240,7 +244,7 @@ enter (suc k) T i (t ∷ ts) =
     elim (declaration (t ∷ ts)) [
       | unfit n ↦ refused 8 (i + n)
       | parsed d rest ↦
-          elim (leb (length (declare T d)) mostOperators) [
+          elim (hasRoom T d) [
             | true ↦ enter k (declare T d) (i + length (declarationTokens d)) rest
             | false ↦ refused 9 (i + operatorPlace d)
           ]

@@ -5,6 +5,7 @@ ghost use mathlib.Core.Path.{_≡_};
 ghost use Rattle.reader.specs.Answered.{Reads, nodeCharacters};
 
 // Document 01's answer: number 0 with the count of what was written, or the number and the place of a refusal.
+#[repr(C)]
 pub struct Answer {
     pub number: u8,
     pub offset: usize,

@@ -64,6 +64,10 @@ unfoldable pub writtenRoles : Fixity → ℕ → Table → ℕ → List Token �
 writtenRoles f zero T i ts L = L
 writtenRoles f (suc k) T i ts L = writeItems f (writtenRoles f k) T i (items ts) L
 
+-- The operator table of these arrays.
+abbrev pub tableBy : List ℕ → List ℕ → List ℕ → List ℕ → List ℕ → ℕ → E.Table
+tableBy S Z P I Q n = record { starts = S; sizes = Z; prefixes = P; infixes = I; postfixes = Q; count = n }
+
 -- What resolving asks of the tokens and of the operators.
 pub record Resolvable (text : Bytes) (K S Z C : List ℕ) (from to : ℕ) (t : E.Table) : Type 0 where
   pub inArrays : to ≤ 1024

@@ -7,7 +7,7 @@ use table::Table;
 ghost use mathlib.Core.Path.{_≡_};
 ghost use Prim.Native.Nat.{_≤_, _<_};
 ghost use lib.ListN.{set};
-ghost use Rattle.resolve.specs.Resolved.{codedClass, Resolvable, Resolved};
+ghost use Rattle.resolve.specs.Resolved.{codedClass, tableBy, Resolvable, Resolved};
 
 // A classified token: a name with offset and length, a number, an operator with its number in the table, a bracket pair or a block
 // with the number of its closing token (of a block: its `in`).
@@ -83,8 +83,31 @@ fn store(
     postfixes[i] = postfix;
 }
 
-// The numbers of the roles of each item's first token, from `from` to `to` and inside, under the operators in force there.
-pub fn resolve<'a>(
+// The operators of these arrays as a table of their own (a copy, made once for each block).
+fn packed<'a>(
+    starts: &'a [u16; 64],
+    sizes: &'a [u8; 64],
+    prefixes: &'a [u16; 64],
+    infixes: &'a [u16; 64],
+    postfixes: &'a [u16; 64],
+    count: usize,
+) -> Table
+    ensures { λ r. ⌜ r ≡ tableBy (now (starts .entry)) (now (sizes .entry)) (now (prefixes .entry)) (now (infixes .entry))
+        (now (postfixes .entry)) count ⌝ }
+{
+    Table {
+        starts: *starts,
+        sizes: *sizes,
+        prefixes: *prefixes,
+        infixes: *infixes,
+        postfixes: *postfixes,
+        count: count,
+    }
+}
+
+// The numbers of the roles of each item's first token, from `from` to `to` and inside, under the operators in force there: those of
+// the arrays `names` to `behind`, which are lent and not copied, and in a block those behind its declarations.
+fn resolve_span<'a, 'b>(
     text: &[u8],
     kinds: &'a [u8; 1024],
     starts: &'a [u16; 1024],
@@ -92,27 +115,33 @@ pub fn resolve<'a>(
     closes: &'a [u16; 1024],
     from: usize,
     to: usize,
-    operators: Table,
+    names: &'b [u16; 64],
+    lengths: &'b [u8; 64],
+    before: &'b [u16; 64],
+    between: &'b [u16; 64],
+    behind: &'b [u16; 64],
+    count: usize,
     prefixes: &mut [u16; 1024],
     infixes: &mut [u16; 1024],
     postfixes: &mut [u16; 1024],
 ) -> Checked
-    requires { ⌜ Resolvable (now text) (now kinds) (now starts) (now sizes) (now closes) from to operators ⌝ }
-    ensures { λ r. ⌜ Resolved (now (text .entry)) (now (kinds .entry)) (now (starts .entry)) (now (sizes .entry)) from to operators
+    requires { ⌜ Resolvable (now text) (now kinds) (now starts) (now sizes) (now closes) from to
+        (tableBy (now names) (now lengths) (now before) (now between) (now behind) count) ⌝ }
+    ensures { λ r. ⌜ Resolved (now (text .entry)) (now (kinds .entry)) (now (starts .entry)) (now (sizes .entry)) from to
+        (tableBy (now (names .entry)) (now (lengths .entry)) (now (before .entry)) (now (between .entry)) (now (behind .entry)) count)
         (now (prefixes .entry)) (now (infixes .entry)) (now (postfixes .entry))
         (now (prefixes .exit)) (now (infixes .exit)) (now (postfixes .exit)) r ⌝ }
 {
     let mut i = from;
     while i < to {
-        let count = operators.count;
         let class = classify(
             text,
             kinds[i],
             starts[i],
             sizes[i],
             closes[i],
-            &operators.starts,
-            &operators.sizes,
+            names,
+            lengths,
             count,
         );
         match class {
@@ -122,15 +151,15 @@ pub fn resolve<'a>(
                     infixes,
                     postfixes,
                     i,
-                    operators.prefixes[k],
-                    operators.infixes[k],
-                    operators.postfixes[k],
+                    before[k],
+                    between[k],
+                    behind[k],
                 );
                 i += 1;
             }
             Class::Bracket(c) => {
                 store(prefixes, infixes, postfixes, i, 0, 0, 0);
-                let r = resolve(
+                let r = resolve_span(
                     text,
                     kinds,
                     starts,
@@ -138,7 +167,12 @@ pub fn resolve<'a>(
                     closes,
                     i + 1,
                     c,
-                    operators,
+                    names,
+                    lengths,
+                    before,
+                    between,
+                    behind,
+                    count,
                     prefixes,
                     infixes,
                     postfixes,
@@ -150,7 +184,8 @@ pub fn resolve<'a>(
             }
             Class::Block(c) => {
                 store(prefixes, infixes, postfixes, i, 0, 0, 0);
-                let e = enter::enter(text, kinds, starts, sizes, i + 1, c, operators);
+                let outer = packed(names, lengths, before, between, behind, count);
+                let e = enter::enter(text, kinds, starts, sizes, i + 1, c, outer);
                 if e.number != 0 {
                     return Checked {
                         number: e.number,
@@ -158,7 +193,9 @@ pub fn resolve<'a>(
                     };
                 }
                 let end = closes[c] as usize;
-                let r = resolve(
+                let t = e.table;
+                let n = t.count;
+                let r = resolve_span(
                     text,
                     kinds,
                     starts,
@@ -166,7 +203,12 @@ pub fn resolve<'a>(
                     closes,
                     c + 1,
                     end,
-                    e.table,
+                    &t.starts,
+                    &t.sizes,
+                    &t.prefixes,
+                    &t.infixes,
+                    &t.postfixes,
+                    n,
                     prefixes,
                     infixes,
                     postfixes,
@@ -187,4 +229,44 @@ pub fn resolve<'a>(
         }
     }
     Checked { number: 0, at: 0 }
+}
+
+// The numbers of the roles of each item's first token, from `from` to `to` and inside, under the operators in force there.
+pub fn resolve<'a>(
+    text: &[u8],
+    kinds: &'a [u8; 1024],
+    starts: &'a [u16; 1024],
+    sizes: &'a [u8; 1024],
+    closes: &'a [u16; 1024],
+    from: usize,
+    to: usize,
+    operators: Table,
+    prefixes: &mut [u16; 1024],
+    infixes: &mut [u16; 1024],
+    postfixes: &mut [u16; 1024],
+) -> Checked
+    requires { ⌜ Resolvable (now text) (now kinds) (now starts) (now sizes) (now closes) from to operators ⌝ }
+    ensures { λ r. ⌜ Resolved (now (text .entry)) (now (kinds .entry)) (now (starts .entry)) (now (sizes .entry)) from to operators
+        (now (prefixes .entry)) (now (infixes .entry)) (now (postfixes .entry))
+        (now (prefixes .exit)) (now (infixes .exit)) (now (postfixes .exit)) r ⌝ }
+{
+    let count = operators.count;
+    resolve_span(
+        text,
+        kinds,
+        starts,
+        sizes,
+        closes,
+        from,
+        to,
+        &operators.starts,
+        &operators.sizes,
+        &operators.prefixes,
+        &operators.infixes,
+        &operators.postfixes,
+        count,
+        prefixes,
+        infixes,
+        postfixes,
+    )
 }

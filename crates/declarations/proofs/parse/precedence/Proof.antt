@@ -56,13 +56,13 @@ returns : tie.Need-returns Inv-loop μ-loop
 returns c =
     let l = c .before .before in
     let v = l .loop .v in
-    sym (l .loop .inv .1 ∙ value-end (l .before .args .digits .now) (l .loop .i) v (omega arith) ∙ coded-high v (c .if3 .taken))
+    sym (l .loop .inv .1 ∙ value-end (l .before .args .digits .now) (l .loop .i) v (omega arith) ∙ coded-low v (omega arith))
 
 returns-2 : tie.Need-returns-2 Inv-loop μ-loop
 returns-2 c =
     let l = c .before .before in
     let v = l .loop .v in
-    sym (l .loop .inv .1 ∙ value-end (l .before .args .digits .now) (l .loop .i) v (omega arith) ∙ coded-low v (c .if3 .left))
+    sym (l .loop .inv .1 ∙ value-end (l .before .args .digits .now) (l .loop .i) v (omega arith) ∙ coded-high v (c .if3 .left))
 
 pub precedence-spec : {M : Type 1} → statement M
 precedence-spec =

@@ -1,0 +1,3 @@
+pub mod listing;
+pub mod reader;
+pub mod texts;

@@ -1,0 +1,112 @@
+//! The reader of document 01: a text in, a node table out.
+//!
+//! Four linear passes: tokens (checks 1 to 5), nesting (6, 7), operators in
+//! force (8 to 10), trees (11). Nothing is written before check 12 has passed.
+
+pub mod list;
+pub mod nesting;
+pub mod operators;
+pub mod role;
+pub mod table;
+pub mod token;
+pub mod tree;
+
+use list::List;
+use token::{Kind, Token};
+use tree::{Node, NodeKind};
+
+pub const MAX_BYTES: usize = 16_384;
+pub const MAX_TOKENS: usize = 1024;
+pub const MAX_DEPTH: usize = 32;
+pub const MAX_OPERATORS: usize = 64;
+pub const MAX_PRECEDENCE: u32 = 1200;
+pub const NODE_WORDS: usize = 5;
+
+/// Read: number 0, offset 0, count nodes. Rejected: the check's number, its
+/// offset, count 0.
+#[derive(Clone, Copy, Debug, PartialEq, Eq)]
+pub struct Answer {
+    pub number: u8,
+    pub offset: usize,
+    pub count: usize,
+}
+
+/// The number of a failed check and its offset.
+#[derive(Clone, Copy, Debug, PartialEq, Eq)]
+pub struct Reject {
+    pub number: u8,
+    pub offset: usize,
+}
+
+impl Reject {
+    /// Never inlined, so that the paths to it stay small.
+    #[cold]
+    #[inline(never)]
+    pub fn new(number: u8, offset: usize) -> Self {
+        Reject { number, offset }
+    }
+}
+
+/// Reads `text` into `nodes`. A rejection changes no word of `nodes`.
+#[inline(never)]
+pub fn read(text: &[u8], nodes: &mut [u32]) -> Answer {
+    let mut tokens = List::new();
+    let mut tree = List::new();
+    match analyze(text, &mut tokens, &mut tree).and_then(|()| write(&tokens, &tree, nodes)) {
+        Ok(()) => Answer { number: 0, offset: 0, count: tree.len() },
+        Err(Reject { number, offset }) => Answer { number, offset, count: 0 },
+    }
+}
+
+/// Checks 1 to 11: the resolved tokens and the tree's nodes, children first.
+pub fn analyze(
+    text: &[u8],
+    tokens: &mut List<Token, MAX_TOKENS>,
+    tree: &mut List<Node, MAX_TOKENS>,
+) -> Result<(), Reject> {
+    if text.len() > MAX_BYTES {
+        return Err(Reject::new(1, MAX_BYTES));
+    }
+    let nested = token::scan(text, tokens)?;
+    if nested {
+        nesting::link(tokens, text.len())?;
+    }
+    operators::resolve(text, tokens)?;
+    tree::build(tokens, tree)
+}
+
+/// Check 12, then five words for each node.
+fn write(tokens: &[Token], tree: &[Node], nodes: &mut [u32]) -> Result<(), Reject> {
+    if nodes.len() / NODE_WORDS < tree.len() {
+        return Err(Reject::new(12, 0));
+    }
+    let (rows, _) = nodes.as_chunks_mut::<NODE_WORDS>();
+    for (number, (node, row)) in tree.iter().zip(rows).enumerate() {
+        *row = words(tokens, *node, number as u32);
+    }
+    Ok(())
+}
+
+/// Kind, first child, second child, offset, length. The last child of a node
+/// is always the node before it.
+#[inline(always)]
+fn words(tokens: &[Token], node: Node, number: u32) -> [u32; NODE_WORDS] {
+    let token = tokens[node.token as usize];
+    let start = u32::from(token.start);
+    let len = u32::from(token.len);
+    let last = number.wrapping_sub(1);
+    match node.kind {
+        NodeKind::Name if token.kind == Kind::Quoted => [1, 0, 0, start + 1, len - 2],
+        NodeKind::Name => [1, 0, 0, start, len],
+        NodeKind::Number => [2, 0, 0, start, len],
+        NodeKind::Prefix => [3, last, 0, start, len],
+        NodeKind::Infix => [4, u32::from(node.left), last, start, len],
+        NodeKind::Postfix => [5, last, 0, start, len],
+        NodeKind::Bracket => [6, last, 0, 0, 0],
+        NodeKind::Block => {
+            let Kind::Let { body } = token.kind else { unreachable!() };
+            let end = u32::from(tokens[body as usize].start) + 2;
+            [7, last, 0, start, end - start]
+        }
+    }
+}

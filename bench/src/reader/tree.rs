@@ -1,0 +1,234 @@
+//! Trees: check 11. Operator precedence over each span, one token at a time.
+//!
+//! What stands before an operator and the token after it settle its fixity.
+//! Where an operand is wanted it is a prefix. After an operand it is infix if
+//! a right operand of lower precedence can follow, that is, before an operand
+//! or an operator of lower precedence; postfix before the span's end or an
+//! operator of higher precedence. Before one of its own precedence it is infix
+//! exactly if it is right-associative: an operand of that precedence on the
+//! right needs that, and the overloading rules then leave it no postfix role.
+
+use super::list::List;
+use super::role::{Associativity, Fixity, Roles};
+use super::token::{Kind, Token};
+use super::{MAX_TOKENS, Reject};
+
+#[derive(Clone, Copy, Debug, PartialEq, Eq)]
+#[repr(u8)]
+pub enum NodeKind {
+    Name = 1,
+    Number,
+    Prefix,
+    Infix,
+    Postfix,
+    Bracket,
+    Block,
+}
+
+/// A node: its token (`(` of a bracket, `let` of a block) and, for infix, the
+/// number of the left operand's root.
+#[derive(Clone, Copy, Debug)]
+pub struct Node {
+    pub kind: NodeKind,
+    pub token: u16,
+    pub left: u16,
+}
+
+/// What is known of the operand just read; its root is the last node.
+#[derive(Clone, Copy)]
+struct Operand {
+    precedence: u16,
+    right: bool,
+}
+
+const LEAF: Operand = Operand { precedence: 0, right: false };
+
+/// An operator that waits for its right operand, or a span that waits for its
+/// end. A span's precedence is above all others.
+#[derive(Clone, Copy)]
+struct Pending {
+    kind: NodeKind,
+    right: bool,
+    precedence: u16,
+    /// Of a span: the opener, `(` or `in`.
+    token: u16,
+    /// Of a block: its `let`.
+    left: u16,
+}
+
+const SPAN: u16 = u16::MAX;
+
+/// The span just read has no tree.
+struct NoTree;
+
+struct Builder<'t> {
+    tokens: &'t [Token],
+    nodes: &'t mut List<Node, MAX_TOKENS>,
+    pending: List<Pending, { MAX_TOKENS + 1 }>,
+    operand: Option<Operand>,
+}
+
+impl Builder<'_> {
+    #[inline(always)]
+    fn last_node(&self) -> u16 {
+        self.nodes.len().wrapping_sub(1) as u16
+    }
+
+    #[inline(always)]
+    fn top(&self) -> Pending {
+        self.pending[self.pending.len() - 1]
+    }
+
+    #[inline(always)]
+    fn leaf(&mut self, kind: NodeKind, at: usize) -> Result<(), NoTree> {
+        self.want_operand()?;
+        self.nodes.push(Node { kind, token: at as u16, left: 0 });
+        self.operand = Some(LEAF);
+        Ok(())
+    }
+
+    #[inline(always)]
+    fn want_operand(&self) -> Result<(), NoTree> {
+        if self.operand.is_some() { Err(NoTree) } else { Ok(()) }
+    }
+
+    fn open(&mut self, kind: NodeKind, opener: usize, first: usize) {
+        let (token, left) = (opener as u16, first as u16);
+        self.pending.push(Pending { kind, right: false, precedence: SPAN, token, left });
+        self.operand = None;
+    }
+
+    /// Gives the operand to the last pending operator as its right operand.
+    #[inline(always)]
+    fn reduce(&mut self, top: Pending, operand: Operand) -> Result<Operand, NoTree> {
+        let Pending { kind, right, precedence, token, left } = top;
+        if operand.precedence > precedence || operand.precedence == precedence && !right {
+            return Err(NoTree);
+        }
+        self.pending.pop();
+        self.nodes.push(Node { kind, token, left });
+        Ok(Operand { precedence, right })
+    }
+
+    #[inline(always)]
+    fn operator(&mut self, at: usize, precedence: u16, roles: Roles) -> Result<(), NoTree> {
+        let token = at as u16;
+        let Some(mut operand) = self.operand else {
+            let right = roles.get(Fixity::Prefix).ok_or(NoTree)? == Associativity::Right;
+            self.pending.push(Pending { kind: NodeKind::Prefix, right, precedence, token, left: 0 });
+            return Ok(());
+        };
+        let infix = match self.tokens.get(at + 1).map(|next| next.kind) {
+            None | Some(Kind::Close | Kind::End) => false,
+            Some(Kind::Operator { precedence: next, .. }) => {
+                next < precedence
+                    || next == precedence && roles.get(Fixity::Infix) == Some(Associativity::Right)
+            }
+            Some(_) => true,
+        };
+        let fixity = if infix { Fixity::Infix } else { Fixity::Postfix };
+        let associativity = roles.get(fixity).ok_or(NoTree)?;
+        loop {
+            let top = self.top();
+            if top.precedence > precedence || top.precedence == precedence && top.right {
+                break;
+            }
+            operand = self.reduce(top, operand)?;
+        }
+        let admitted = operand.precedence < precedence
+            || operand.precedence == precedence && associativity == Associativity::Left && !operand.right;
+        if !admitted {
+            return Err(NoTree);
+        }
+        let left = self.last_node();
+        if infix {
+            let right = associativity == Associativity::Right;
+            self.pending.push(Pending { kind: NodeKind::Infix, right, precedence, token, left });
+            self.operand = None;
+        } else {
+            self.nodes.push(Node { kind: NodeKind::Postfix, token, left });
+            self.operand = Some(Operand { precedence, right: false });
+        }
+        Ok(())
+    }
+
+    /// Completes every operator of the innermost span.
+    fn finish(&mut self) -> Result<(), NoTree> {
+        let mut operand = self.operand.ok_or(NoTree)?;
+        loop {
+            let top = self.top();
+            if top.precedence == SPAN {
+                return Ok(());
+            }
+            operand = self.reduce(top, operand)?;
+        }
+    }
+
+    /// Hangs the innermost span, now complete, under its bracket or block.
+    fn close(&mut self) {
+        if let Some(span) = self.pending.pop() {
+            self.nodes.push(Node { kind: span.kind, token: span.left, left: 0 });
+        }
+        self.operand = Some(LEAF);
+    }
+
+    /// Drops the pending operators of the innermost span; its opener and
+    /// closer, or none for the whole text.
+    fn abandon(&mut self) -> Option<(u16, u16)> {
+        while self.top().precedence != SPAN {
+            self.pending.pop();
+        }
+        if self.pending.len() == 1 {
+            return None;
+        }
+        let opener = self.top().token;
+        match self.tokens[opener as usize].kind {
+            Kind::Open { close: end } | Kind::In { end } => Some((opener, end)),
+            _ => unreachable!(),
+        }
+    }
+}
+
+/// Builds the tree of a text's spans, children before parents.
+pub fn build(tokens: &[Token], nodes: &mut List<Node, MAX_TOKENS>) -> Result<(), Reject> {
+    let mut builder = Builder { tokens, nodes, pending: List::new(), operand: None };
+    builder.open(NodeKind::Block, 0, 0);
+    // The opener of the first span without a tree, so far.
+    let mut failed: Option<u16> = None;
+    let mut at = 0;
+    loop {
+        let step = match tokens.get(at).map(|token| token.kind) {
+            Some(Kind::Word | Kind::Sign | Kind::Quoted) => builder.leaf(NodeKind::Name, at),
+            Some(Kind::Number) => builder.leaf(NodeKind::Number, at),
+            Some(Kind::Operator { precedence, roles }) => builder.operator(at, precedence, roles),
+            Some(Kind::Open { .. }) => {
+                builder.want_operand().map(|()| builder.open(NodeKind::Bracket, at, at))
+            }
+            Some(Kind::Let { body }) => builder.want_operand().map(|()| {
+                builder.open(NodeKind::Block, body as usize, at);
+                at = body as usize;
+            }),
+            Some(Kind::Close | Kind::End) => builder.finish().map(|()| builder.close()),
+            Some(Kind::In { .. } | Kind::Semicolon) => unreachable!(),
+            None => match builder.finish() {
+                Ok(()) => break,
+                Err(no_tree) => Err(no_tree),
+            },
+        };
+        if let Err(NoTree) = step {
+            // Spans inside this one start later; those around it start
+            // earlier and may fail too, so go on behind it.
+            let Some((opener, closer)) = builder.abandon() else {
+                return Err(Reject::new(11, 0));
+            };
+            failed = Some(failed.map_or(opener, |first| first.min(opener)));
+            builder.close();
+            at = closer as usize;
+        }
+        at += 1;
+    }
+    match failed {
+        None => Ok(()),
+        Some(opener) => Err(Reject::new(11, tokens[opener as usize].start as usize)),
+    }
+}

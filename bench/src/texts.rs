@@ -1,0 +1,98 @@
+//! Random texts for comparisons, the same for the same seed.
+
+mod damage;
+mod limits;
+mod random;
+mod rules;
+
+pub use random::Random;
+
+/// The tokens of a text, before they are joined.
+pub type Tokens = Vec<Vec<u8>>;
+
+pub struct Texts {
+    random: Random,
+}
+
+impl Texts {
+    pub fn new(seed: u64) -> Self {
+        Texts { random: Random::new(seed) }
+    }
+
+    #[allow(clippy::should_implement_trait)]
+    pub fn next(&mut self) -> Vec<u8> {
+        let random = &mut self.random;
+        match random.below(100) {
+            0..8 => random_bytes(random),
+            8..22 => random_tokens(random),
+            22..62 => {
+                let tokens = rules::rule(random);
+                join(random, &tokens)
+            }
+            62..94 => damage::damaged_rule(random),
+            _ => limits::text(random),
+        }
+    }
+}
+
+fn random_bytes(random: &mut Random) -> Vec<u8> {
+    let common = b"ab1 + - * () ; 'not'\tlet in end\n_,\"";
+    let len = random.below(60);
+    let uniform = random.one_in(4);
+    let mut byte = || if uniform { random.below(256) as u8 } else { *random.pick(common) };
+    (0..len).map(|_| byte()).collect()
+}
+
+fn random_tokens(random: &mut Random) -> Vec<u8> {
+    let len = random.below(20);
+    let tokens: Tokens = (0..len).map(|_| random_token(random)).collect();
+    join(random, &tokens)
+}
+
+pub fn random_token(random: &mut Random) -> Vec<u8> {
+    const TOKENS: &[&str] = &[
+        "a", "b", "c1", "x_y", "a", "b", "0", "7", "042", "'a'", "'not'", "'a b'", "(", ")", "(", ")", ";",
+        "let", "in", "end", "or", "and", "not", "=", "<", "+", "-", "*", "-", "infix", "prefix", "postfix",
+        "plain", "left", "right", "non", "400", "1200", "0", "s", "==>", "''", "'", "_", ",",
+        "let infix left 400 s ; in", "let postfix left 400 s ; in", "let plain + ; in", "let in",
+    ];
+    random.pick(TOKENS).as_bytes().to_vec()
+}
+
+/// One space between, random blanks, or none where the tokens stay apart.
+pub fn join(random: &mut Random, tokens: &[Vec<u8>]) -> Vec<u8> {
+    let style = random.below(4);
+    let mut text = Vec::new();
+    for token in tokens {
+        match style {
+            0 => blanks(random, &mut text),
+            1 => {
+                if !stay_apart(&text, token) {
+                    text.push(b' ');
+                }
+            }
+            _ if text.is_empty() => {}
+            _ => text.push(b' '),
+        }
+        text.extend(token);
+    }
+    if style == 0 {
+        blanks(random, &mut text);
+    }
+    text
+}
+
+fn blanks(random: &mut Random, text: &mut Vec<u8>) {
+    text.push(b' ');
+    while random.one_in(4) {
+        text.push(*random.pick(b" \t\n\r"));
+    }
+}
+
+fn stay_apart(text: &[u8], token: &[u8]) -> bool {
+    let (Some(&last), Some(&first)) = (text.last(), token.first()) else { return true };
+    let is_word = |byte: u8| byte.is_ascii_alphanumeric() || byte == b'_';
+    let is_sign = |byte: u8| byte.is_ascii_punctuation() && !is_word(byte) && !b"();'".contains(&byte);
+    let merge = is_word(last) && is_word(first) || is_sign(last) && is_sign(first);
+    !merge
+}

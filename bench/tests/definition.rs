@@ -1,0 +1,180 @@
+//! The reader against all trees of a span, enumerated from document 01's
+//! definition. Also: no span has two.
+
+use rule_bench::reader;
+use rule_bench::texts::Random;
+use std::fmt::Write;
+
+#[derive(Clone, Copy, PartialEq)]
+enum Side {
+    Non,
+    Left,
+    Right,
+}
+use Side::{Left, Non, Right};
+
+/// Prefix, infix, postfix.
+#[derive(Clone, Copy)]
+struct Mark {
+    level: u32,
+    sides: [Option<Side>; 3],
+}
+
+/// Rules 2 to 4 of the check at `in`.
+fn allowed([prefix, infix, postfix]: [Option<Side>; 3]) -> bool {
+    let only = |side: Option<Side>, wanted| side.is_none() || side == Some(wanted);
+    match infix {
+        None => prefix.is_some() || postfix.is_some(),
+        Some(Non) => only(prefix, Non) && only(postfix, Non),
+        Some(Left) => only(prefix, Non) && only(postfix, Left),
+        Some(Right) => only(prefix, Right) && postfix.is_none(),
+    }
+}
+
+fn random_mark(random: &mut Random, levels: u64) -> Mark {
+    const PREFIX: [Option<Side>; 3] = [None, Some(Non), Some(Right)];
+    const INFIX: [Option<Side>; 4] = [None, Some(Non), Some(Left), Some(Right)];
+    const POSTFIX: [Option<Side>; 3] = [None, Some(Non), Some(Left)];
+    loop {
+        let sides = [*random.pick(&PREFIX), *random.pick(&INFIX), *random.pick(&POSTFIX)];
+        if allowed(sides) {
+            return Mark { level: 1 + random.below(levels) as u32, sides };
+        }
+    }
+}
+
+struct Tree {
+    level: u32,
+    right: bool,
+    shape: String,
+}
+
+const LEAF: u64 = u64::MAX;
+
+/// Every tree of the items from `from` to `to`.
+fn trees(marks: &[Mark], items: &[u64], from: usize, to: usize) -> Vec<Tree> {
+    let mut found = Vec::new();
+    if to - from == 1 && items[from] == LEAF {
+        found.push(Tree { level: 0, right: false, shape: format!("{from}") });
+    }
+    for at in from..to {
+        if items[at] == LEAF {
+            continue;
+        }
+        let Mark { level, sides } = marks[items[at] as usize];
+        let on_right = |side, t: &Tree| t.level < level || t.level == level && side == Right;
+        let on_left = |side, t: &Tree| t.level < level || t.level == level && side == Left && !t.right;
+        let before = || trees(marks, items, from, at);
+        let after = || trees(marks, items, at + 1, to);
+        if let (Some(side), true) = (sides[0], at == from) {
+            for t in after().iter().filter(|t| on_right(side, t)) {
+                found.push(Tree { level, right: side == Right, shape: format!("(3@{at} {})", t.shape) });
+            }
+        }
+        if let Some(side) = sides[1] {
+            for l in before().iter().filter(|t| on_left(side, t)) {
+                for r in after().iter().filter(|t| on_right(side, t)) {
+                    let shape = format!("(4@{at} {} {})", l.shape, r.shape);
+                    found.push(Tree { level, right: side == Right, shape });
+                }
+            }
+        }
+        if let (Some(side), true) = (sides[2], at + 1 == to) {
+            for t in before().iter().filter(|t| on_left(side, t)) {
+                found.push(Tree { level, right: false, shape: format!("(5@{at} {})", t.shape) });
+            }
+        }
+    }
+    found
+}
+
+/// The declarations of the marks m0, m1, ... up to `in`.
+fn head(marks: &[Mark]) -> String {
+    let mut text = String::from("let ");
+    for (i, mark) in marks.iter().enumerate() {
+        for (fixity, side) in ["prefix", "infix", "postfix"].iter().zip(mark.sides) {
+            if let Some(side) = side {
+                let side = ["non", "left", "right"][side as usize];
+                write!(text, "{fixity} {side} {} m{i} ; ", mark.level).unwrap();
+            }
+        }
+    }
+    text + "in"
+}
+
+/// The tree below a node; items by their position.
+fn shape(nodes: &[u32], node: usize, first: usize) -> String {
+    let [kind, left, right, offset, _] = nodes[5 * node..][..5] else { unreachable!() };
+    let at = (offset as usize).wrapping_sub(first) / 3;
+    let child = |node| shape(nodes, node as usize, first);
+    match kind {
+        1 => format!("{at}"),
+        4 => format!("(4@{at} {} {})", child(left), child(right)),
+        _ => format!("({kind}@{at} {})", child(left)),
+    }
+}
+
+fn check(marks: &[Mark], head: &str, items: &[u64]) -> bool {
+    let mut text = String::from(head);
+    for item in items {
+        // Each item takes three bytes.
+        if *item == LEAF { text += " xx" } else { write!(text, " m{item}").unwrap() }
+    }
+    text += " end";
+    let expected = trees(marks, items, 0, items.len());
+    assert!(expected.len() < 2, "two trees: {text}");
+    let mut nodes = [0; 5120];
+    let answer = reader::read(text.as_bytes(), &mut nodes);
+    match expected.first() {
+        None => assert_eq!((answer.number, answer.offset), (11, head.len() - 2), "{text}"),
+        Some(tree) => {
+            assert_eq!((answer.number, answer.count), (0, items.len() + 1), "{text}");
+            let block = &nodes[5 * items.len()..][..5];
+            assert_eq!(block, [7, items.len() as u32 - 1, 0, 0, head.len() as u32]);
+            assert_eq!(tree.shape, shape(&nodes, items.len() - 1, head.len() + 1), "{text}");
+        }
+    }
+    !expected.is_empty()
+}
+
+/// All sequences of up to six items, for random tables of three operators.
+#[test]
+fn short_spans() {
+    let mut random = Random::new(1);
+    let mut readable = 0;
+    for _ in 0..150 {
+        let marks: Vec<Mark> = (0..3).map(|_| random_mark(&mut random, 2)).collect();
+        let head = head(&marks);
+        for len in 0..=6 {
+            for code in 0..4u64.pow(len) {
+                let item = |i| match code / 4u64.pow(i) % 4 {
+                    3 => LEAF,
+                    mark => mark,
+                };
+                let items: Vec<u64> = (0..len).map(item).collect();
+                readable += u32::from(check(&marks, &head, &items));
+            }
+        }
+    }
+    assert!(readable > 10_000, "{readable}");
+}
+
+/// Longer random sequences, half of them operators.
+#[test]
+fn longer_spans() {
+    let mut random = Random::new(2);
+    let mut readable = 0;
+    for _ in 0..3000 {
+        let count = 1 + random.below(6);
+        let levels = 1 + random.below(4);
+        let marks: Vec<Mark> = (0..count).map(|_| random_mark(&mut random, levels)).collect();
+        let head = head(&marks);
+        for _ in 0..60 {
+            let len = 5 + random.below(7);
+            let mut item = || if random.below(2) == 0 { LEAF } else { random.below(count) };
+            let items: Vec<u64> = (0..len).map(|_| item()).collect();
+            readable += u32::from(check(&marks, &head, &items));
+        }
+    }
+    assert!(readable > 1000, "{readable}");
+}

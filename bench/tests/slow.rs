@@ -1,0 +1,316 @@
+//! The reader against a slow one that takes other ways: owned names, a table
+//! copied for each block, and trees by a search for the root.
+
+use rule_bench::listing;
+use rule_bench::texts::Texts;
+use std::collections::HashMap;
+use std::fmt::Write;
+
+type Refusal = (u32, usize);
+/// Level and side ('n', 'l', 'r') as prefix, infix, postfix.
+type Roles = [Option<(u32, char)>; 3];
+type Table = HashMap<String, Roles>;
+
+struct Token {
+    start: usize,
+    bytes: String,
+    /// 'w', '+', '0', '\'', or the delimiter.
+    class: char,
+}
+
+fn class(byte: u8) -> char {
+    match byte {
+        b'A'..=b'Z' | b'a'..=b'z' => 'w',
+        b'0'..=b'9' => '0',
+        b'(' | b')' | b';' | b'\'' => byte as char,
+        b'\t' | b'\n' | b'\r' | b' ' => ' ',
+        _ if b"+-*/<>=!&|^~:?@#$%".contains(&byte) => '+',
+        _ => '?',
+    }
+}
+
+fn tokens(text: &[u8]) -> Result<Vec<Token>, Refusal> {
+    if text.len() > 16384 {
+        return Err((1, 16384));
+    }
+    let mut tokens = Vec::new();
+    let mut rest = 0;
+    while rest < text.len() {
+        let start = rest;
+        let class_here = class(text[start]);
+        let run = |belongs: &dyn Fn(u8) -> bool| text[start..].iter().take_while(|b| belongs(**b)).count();
+        let (len, max) = match class_here {
+            ' ' => {
+                rest += 1;
+                continue;
+            }
+            'w' => (run(&|b| b == b'_' || "w0".contains(class(b))), 63),
+            '+' => (run(&|b| class(b) == '+'), 63),
+            '0' => (run(&|b| class(b) == '0'), 9),
+            '\'' => {
+                let inside = &text[start + 1..];
+                let len = inside.iter().position(|&b| b == b'\'').ok_or((3, start))?;
+                let fit = (1..64).contains(&len) && inside[..len].iter().all(|b| (32..127).contains(b));
+                if !fit {
+                    return Err((3, start));
+                }
+                (len + 2, 65)
+            }
+            '?' => return Err((2, start)),
+            _ => (1, 1),
+        };
+        if len > max {
+            return Err((4, start));
+        }
+        if tokens.len() == 1024 {
+            return Err((5, start));
+        }
+        rest += len;
+        let bytes = String::from_utf8(text[start..rest].to_vec()).unwrap();
+        tokens.push(Token { start, bytes, class: class_here });
+    }
+    Ok(tokens)
+}
+
+/// For each opener its closer; for each `let` also its `in` in the second map.
+type Links = (HashMap<usize, usize>, HashMap<usize, usize>);
+
+fn nesting(tokens: &[Token], text_len: usize) -> Result<Links, Refusal> {
+    let (mut closers, mut ins) = (HashMap::new(), HashMap::new());
+    let mut open: Vec<(usize, &str)> = Vec::new();
+    for (at, token) in tokens.iter().enumerate() {
+        let innermost = open.last().map_or("", |opener| opener.1);
+        match (&token.bytes[..], innermost) {
+            (";", "let") => {}
+            ("in", "let") => {
+                ins.insert(open.last().unwrap().0, at);
+                open.last_mut().unwrap().1 = "in";
+            }
+            ("(" | ")" | "let" | "end", "let") | ("in" | ";", _) => return Err((6, token.start)),
+            ("(" | "let", _) if open.len() == 32 => return Err((7, token.start)),
+            ("(" | "let", _) => open.push((at, &token.bytes)),
+            (")", "(") | ("end", "in") => drop(closers.insert(open.pop().unwrap().0, at)),
+            (")" | "end", _) => return Err((6, token.start)),
+            _ => {}
+        }
+    }
+    if open.is_empty() { Ok((closers, ins)) } else { Err((6, text_len)) }
+}
+
+fn start_table() -> Table {
+    let infix = |level, side| [None, Some((level, side)), None];
+    let marks = [
+        ("or", infix(800, 'l')),
+        ("and", infix(700, 'l')),
+        ("not", [Some((600, 'r')), None, None]),
+        ("=", infix(500, 'n')),
+        ("<", infix(500, 'n')),
+        ("+", infix(400, 'l')),
+        ("-", [Some((400, 'n')), Some((400, 'l')), None]),
+        ("*", infix(300, 'l')),
+    ];
+    marks.map(|(mark, roles)| (mark.to_string(), roles)).into()
+}
+
+fn is_mark(token: &Token) -> bool {
+    "w+".contains(token.class) && !["let", "in", "end"].contains(&&token.bytes[..])
+}
+
+fn declare(mut table: Table, tokens: &[Token]) -> Result<Table, Refusal> {
+    let (body, mut rest) = tokens.split_last().unwrap();
+    while !rest.is_empty() {
+        let need = |at: usize, fit: &dyn Fn(&Token) -> bool| {
+            let token = rest.get(at).unwrap_or(body);
+            if fit(token) { Ok(token) } else { Err((8, token.start)) }
+        };
+        let one_of = |words: &'static str| move |t: &Token| words.split(' ').any(|word| word == t.bytes);
+        let kind = &need(0, &one_of("prefix infix postfix plain"))?.bytes[..];
+        if kind == "plain" {
+            let mark = need(1, &is_mark)?;
+            need(2, &one_of(";"))?;
+            table.remove(&mark.bytes);
+            rest = &rest[3..];
+            continue;
+        }
+        let (fixity, sides) = match kind {
+            "prefix" => (0, "right non"),
+            "infix" => (1, "left right non"),
+            _ => (2, "left non"),
+        };
+        let side = need(1, &one_of(sides))?.bytes.chars().next().unwrap();
+        let in_range = |t: &Token| t.class == '0' && (1..=1200).contains(&t.bytes.parse().unwrap_or(0));
+        let level = need(2, &in_range)?.bytes.parse().unwrap();
+        let mark = need(3, &is_mark)?;
+        need(4, &one_of(";"))?;
+        table.entry(mark.bytes.clone()).or_insert([None; 3])[fixity] = Some((level, side));
+        if table.len() > 64 {
+            return Err((9, mark.start));
+        }
+        rest = &rest[5..];
+    }
+    if table.values().all(passes) { Ok(table) } else { Err((10, body.start)) }
+}
+
+fn passes(roles: &Roles) -> bool {
+    let present: Vec<(u32, char)> = roles.iter().flatten().copied().collect();
+    let sides = roles.map(|role| role.map_or(' ', |role| role.1));
+    present.iter().all(|role| role.0 == present[0].0)
+        && match sides {
+            [prefix, 'n', postfix] => " n".contains(prefix) && " n".contains(postfix),
+            [prefix, 'l', postfix] => " n".contains(prefix) && " l".contains(postfix),
+            [prefix, 'r', postfix] => " r".contains(prefix) && postfix == ' ',
+            _ => true,
+        }
+}
+
+/// An item of a span: a token that opens or is an operand, or a mark.
+#[derive(Clone, Copy)]
+struct Item {
+    at: usize,
+    roles: Option<Roles>,
+}
+
+struct Reader {
+    tokens: Vec<Token>,
+    closers: HashMap<usize, usize>,
+    ins: HashMap<usize, usize>,
+    roles: Vec<Option<Roles>>,
+    nodes: Vec<[usize; 5]>,
+}
+
+/// Root of a tree: node number, level, right-sided.
+type Root = (usize, u32, bool);
+
+impl Reader {
+    fn span(&self, from: usize, to: usize) -> Vec<Item> {
+        let mut items = Vec::new();
+        let mut at = from;
+        while at < to {
+            items.push(Item { at, roles: self.roles[at] });
+            at = self.closers.get(&at).map_or(at, |&closer| closer) + 1;
+        }
+        items
+    }
+
+    fn body(&self, opener: usize) -> Vec<Item> {
+        let first = self.ins.get(&opener).map_or(opener, |&body| body) + 1;
+        self.span(first, self.closers[&opener])
+    }
+
+    /// The root is a mark of the widest level: the first if it would be
+    /// right-sided where it stands, else the last. Inner spans count as
+    /// operands only, unless `deep`.
+    fn tree(&mut self, items: &[Item], deep: bool) -> Option<Root> {
+        let level_of = |item: &Item| item.roles.map_or(0, |roles| roles.iter().flatten().next().unwrap().0);
+        let level = items.iter().map(level_of).max()?;
+        if level == 0 {
+            return if items.len() == 1 { Some((self.leaf(items[0].at, deep), 0, false)) } else { None };
+        }
+        let widest = |item: &Item| level_of(item) == level;
+        let first = items.iter().position(widest).unwrap();
+        let roles_first = items[first].roles.unwrap();
+        let right_there = roles_first[usize::from(first > 0)].is_some_and(|role| role.1 == 'r');
+        let root = if right_there { first } else { items.iter().rposition(widest).unwrap() };
+        let fixity = match (root, root + 1 == items.len()) {
+            (0, _) => 0,
+            (_, true) => 2,
+            _ => 1,
+        };
+        let side = items[root].roles.unwrap()[fixity]?.1;
+        let mut children = [0; 2];
+        if fixity != 0 {
+            let (node, below, right) = self.tree(&items[..root], deep)?;
+            children[0] = node;
+            if below == level && (side != 'l' || right) {
+                return None;
+            }
+        }
+        if fixity != 2 {
+            let (node, below, _) = self.tree(&items[root + 1..], deep)?;
+            children[usize::from(fixity == 1)] = node;
+            if below == level && side != 'r' {
+                return None;
+            }
+        }
+        let token = &self.tokens[items[root].at];
+        self.nodes.push([3 + fixity, children[0], children[1], token.start, token.bytes.len()]);
+        Some((self.nodes.len() - 1, level, side == 'r'))
+    }
+
+    fn leaf(&mut self, at: usize, deep: bool) -> usize {
+        let Token { start, class, ref bytes } = self.tokens[at];
+        let (len, block) = (bytes.len(), bytes == "let");
+        let inner = if deep && self.closers.contains_key(&at) {
+            let items = self.body(at);
+            self.tree(&items, true).unwrap().0
+        } else {
+            0
+        };
+        self.nodes.push(match class {
+            '0' => [2, 0, 0, start, len],
+            '\'' => [1, 0, 0, start + 1, len - 2],
+            '(' => [6, inner, 0, 0, 0],
+            _ if block => [7, inner, 0, start, self.tokens[self.ins[&at]].start + 2 - start],
+            _ => [1, 0, 0, start, len],
+        });
+        self.nodes.len() - 1
+    }
+}
+
+fn slow(text: &[u8]) -> Result<Vec<[usize; 5]>, Refusal> {
+    let tokens = tokens(text)?;
+    let (closers, ins) = nesting(&tokens, text.len())?;
+    let mut tables = vec![start_table()];
+    let mut roles = vec![None; tokens.len()];
+    let mut at = 0;
+    while at < tokens.len() {
+        match &tokens[at].bytes[..] {
+            "let" => {
+                let body = ins[&at];
+                let outer = tables.last().unwrap().clone();
+                tables.push(declare(outer, &tokens[at + 1..=body])?);
+                at = body;
+            }
+            "end" => drop(tables.pop()),
+            bytes => roles[at] = tables.last().unwrap().get(bytes).copied(),
+        }
+        at += 1;
+    }
+    let mut reader = Reader { tokens, closers, ins, roles, nodes: Vec::new() };
+    let whole = reader.span(0, reader.tokens.len());
+    reader.tree(&whole, false).ok_or((11, 0usize))?;
+    let mut openers: Vec<usize> = reader.closers.keys().copied().collect();
+    openers.sort();
+    for opener in openers {
+        let items = reader.body(opener);
+        let place = reader.ins.get(&opener).map_or(opener, |&body| body);
+        let place = reader.tokens[place].start;
+        reader.tree(&items, false).ok_or((11, place))?;
+    }
+    reader.nodes.clear();
+    reader.tree(&whole, true).unwrap();
+    Ok(reader.nodes)
+}
+
+fn slow_listing(text: &[u8]) -> String {
+    const KINDS: [&str; 8] = ["", "name", "number", "prefix", "infix", "postfix", "bracket", "block"];
+    match slow(text) {
+        Err((number, place)) => format!("refused {number} at {place}\n"),
+        Ok(nodes) => {
+            let mut listing = format!("read {}\n", nodes.len());
+            for (i, [kind, first, second, offset, len]) in nodes.into_iter().enumerate() {
+                writeln!(listing, "{i} {} {first} {second} {offset} {len}", KINDS[kind]).unwrap();
+            }
+            listing
+        }
+    }
+}
+
+#[test]
+fn same_listing() {
+    let mut texts = Texts::new(11);
+    for _ in 0..60_000 {
+        let text = texts.next();
+        assert_eq!(listing::of(&text), slow_listing(&text), "{}", String::from_utf8_lossy(&text));
+    }
+}

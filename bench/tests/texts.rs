@@ -1,0 +1,48 @@
+//! The generated texts meet every check, and the reader keeps to the node
+//! table: a rejection changes nothing, a reading only its own words.
+
+use rule_bench::reader::{Answer, read};
+use rule_bench::texts::{Random, Texts};
+
+const PATTERN: u32 = 0xA5A5_5A5A;
+
+#[test]
+fn same_seed_same_texts() {
+    let (mut one, mut two) = (Texts::new(7), Texts::new(7));
+    (0..500).for_each(|_| assert_eq!(one.next(), two.next()));
+}
+
+#[test]
+fn every_check_occurs() {
+    let mut seen = [0; 12];
+    let mut texts = Texts::new(3);
+    for _ in 0..40_000 {
+        seen[read(&texts.next(), &mut [0; 5120]).number as usize] += 1;
+    }
+    println!("answers by number: {seen:?}");
+    assert!(seen[0] > 12_000 && seen.iter().all(|&count| count >= 20), "{seen:?}");
+}
+
+#[test]
+fn node_table() {
+    let mut texts = Texts::new(5);
+    let mut random = Random::new(5);
+    for _ in 0..40_000 {
+        let text = texts.next();
+        let mut full = [PATTERN; 5136];
+        let answer = read(&text, &mut full);
+        let words = 5 * answer.count;
+        assert!(full[words..].iter().all(|&word| word == PATTERN));
+        assert_eq!(answer.number == 0, answer.count > 0);
+        for len in [words + random.index(9), words, words.saturating_sub(1 + random.index(7))] {
+            let mut nodes = vec![PATTERN; len];
+            let short = read(&text, &mut nodes);
+            if len >= words {
+                assert_eq!((short, &nodes[..]), (answer, &full[..len]));
+            } else {
+                assert_eq!(short, Answer { number: 12, offset: 0, count: 0 });
+                assert!(nodes.iter().all(|&word| word == PATTERN));
+            }
+        }
+    }
+}
