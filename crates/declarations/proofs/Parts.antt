@@ -184,13 +184,13 @@ module _ (f : ℕ) (w : Bytes) (ts : List Token) (a : ℕ) (g : a ≡ associativ
 
 -- What the number says.
 module _ (f : Fixity) (a : Associativity) (d : Bytes) (ts : List Token) (p : ℕ) (g : p ≡ precedenceCode d) where
-  pub level-other : p ≡ 0 → precedencePart f a (number d ∷ ts) ≡ unfit 2
+  pub digits-other : p ≡ 0 → precedencePart f a (number d ∷ ts) ≡ unfit 2
   unfolding precedencePart precedenceOf
-  level-other z = rw (precedence-zero d (sym g ∙ z), precedencePart)
+  digits-other z = rw (precedence-zero d (sym g ∙ z), precedencePart)
 
-  pub level-given : (p ≡ 0 → ⊥) → precedencePart f a (number d ∷ ts) ≡ operatorPart 3 (declares f a d) ts
+  pub digits-given : (p ≡ 0 → ⊥) → precedencePart f a (number d ∷ ts) ≡ operatorPart 3 (declares f a d) ts
   unfolding precedencePart precedenceOf
-  level-given n = rw (precedence-positive d (λ z. n (g ∙ z)) .0, precedencePart)
+  digits-given n = rw (precedence-positive d (λ z. n (g ∙ z)) .0, precedencePart)
 
 -- A role's number is made of the numbers that were read.
 pub role-coded :

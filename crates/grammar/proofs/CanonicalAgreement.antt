@@ -33,7 +33,7 @@ use Rattle.grammar.specs.Declaration.{
   declarationTokens,
   allTokens,
 }
-use Rattle.grammar.specs.SpanTree.{present, fixityBy, fixity, Side, onLeft, onRight, Admitted}
+use Rattle.grammar.specs.SpanTree.{present, fixityBy, fixity, Position, onLeft, onRight, Admitted}
 use Rattle.grammar.specs.Tree.{Tree, nothing, leaf, bracket, block, node, flat, spanTree, InnerOk}
 use Rattle.grammar.specs.Abstract.{
   Content,
@@ -72,7 +72,7 @@ unfolding content
 written-content T =
     written-by (λ x y. content y ≡ content x) T (λ x. refl) (λ c e. refl) (λ c e. refl) (λ d. ap numeral (value-strip d))
 
-fitted-agrees : (T : Table) (s : Side) (o : Option Role) (t : Tree) → abstract (fitted T s o t) ≡ abstract t
+fitted-agrees : (T : Table) (s : Position) (o : Option Role) (t : Tree) → abstract (fitted T s o t) ≡ abstract t
 unfolding abstract
 fitted-agrees T s o t = fitted-by (λ u. abstract u ≡ abstract t) T s o t (λ e. refl) (λ e. refl)
 

@@ -12,7 +12,7 @@ use Rattle.grammar.specs.Bytes.{Bytes}
 use Rattle.grammar.specs.Token.{Token}
 use Rattle.grammar.specs.Operator.{Role, Table, role}
 use Rattle.grammar.specs.Declaration.{Declaration, declares, clears, declareAll, declarationTokens, allTokens}
-use Rattle.grammar.specs.SpanTree.{root, fixity, Side, onLeft, onRight, Admitted}
+use Rattle.grammar.specs.SpanTree.{root, fixity, Position, onLeft, onRight, Admitted}
 use Rattle.grammar.specs.Tree.{Tree, nothing, leaf, bracket, block, node, flat, depth, spanTree, InnerOk}
 use Rattle.grammar.specs.Canonical.{stripDeclaration, writtenToken, fitted, canonical, refuses}
 use Rattle.grammar.proofs.Logic.{clash}
@@ -32,14 +32,14 @@ record Measure (μ : Tree → ℕ) : Type 0 where
 module _ (μ : Tree → ℕ) (measure : Measure μ) where
   -- Where the root is as before and its place does not refuse it, there is no new bracket.
   unwrapped-smaller :
-      (T : Table) (s : Side) (o : Option Role) (t t′ : Tree) → root T (spanTree t′) ≡ root T (spanTree t)
+      (T : Table) (s : Position) (o : Option Role) (t t′ : Tree) → root T (spanTree t′) ≡ root T (spanTree t)
       → refuses s o (root T (spanTree t)) ≡ false → μ t′ ≤ μ t → μ (fitted T s o t′) ≤ μ t
   unwrapped-smaller T s o t t′ same fits h =
       fitted-by (λ u. μ u ≤ μ t) T s o t′ (λ e. h) (λ e. absurd (clash e (ap (refuses s o) same ∙ fits)))
 
   -- Where `t` stands in a bracket, there is room for one.
   wrapped-smaller :
-      (T : Table) (s : Side) (o : Option Role) (t t′ : Tree) → μ t′ ≤ μ t → μ (fitted T s o t′) ≤ μ (bracket t)
+      (T : Table) (s : Position) (o : Option Role) (t t′ : Tree) → μ t′ ≤ μ t → μ (fitted T s o t′) ≤ μ (bracket t)
   wrapped-smaller T s o t t′ h =
       fitted-by (λ u. μ u ≤ μ (bracket t)) T s o t′
       (λ e. le-trans h (measure .bracketed t)) (λ e. measure .inBracket t′ t h)
@@ -47,7 +47,7 @@ module _ (μ : Tree → ℕ) (measure : Measure μ) where
   -- Of a tree at a place that does not refuse it; `none` is the place of a whole span.
   fitted-smaller :
       (T : Table) (t : Tree) → Positive T → Admitted T (spanTree t) → InnerOk T t
-      → (s : Side) (o : Option Role) → refuses s o (root T (spanTree t)) ≡ false → μ (fitted T s o (canonical T t)) ≤ μ t
+      → (s : Position) (o : Option Role) → refuses s o (root T (spanTree t)) ≡ false → μ (fitted T s o (canonical T t)) ≤ μ t
   unfolding canonical spanTree root refuses fitted
   fitted-smaller T nothing p a i s o f = unwrapped-smaller T s o nothing nothing refl f (le-refl (μ nothing))
   fitted-smaller T (leaf t) p a i s o f = unwrapped-smaller T s o (leaf t) (leaf (writtenToken T t)) refl f (measure .atLeaf _ _)

@@ -34,7 +34,7 @@ use Rattle.grammar.specs.Declaration.{
   declarationTokens,
   allTokens,
 }
-use Rattle.grammar.specs.SpanTree.{Side, onLeft, onRight, isOperandToken, isOperand, Admitted}
+use Rattle.grammar.specs.SpanTree.{Position, onLeft, onRight, isOperandToken, isOperand, Admitted}
 use Rattle.grammar.specs.Tree.{Tree, nothing, leaf, bracket, block, node, flat, spanTree, InnerOk}
 use Rattle.grammar.specs.Canonical.{strip, stripDeclaration, writtenToken, fitted, canonical}
 use Rattle.grammar.proofs.Logic.{and-left, and-right, and-intro, clash}
@@ -101,7 +101,7 @@ unfolding flat areTokens isToken
 tokens-node l m r e f g = tokens-join (flat l) (symbol m ∷ flat r) e (and-intro f g)
 
 fitted-tokens :
-    (T : Table) (s : Side) (o : Option Role) (t : Tree) → areTokens (flat t) ≡ true → areTokens (flat (fitted T s o t)) ≡ true
+    (T : Table) (s : Position) (o : Option Role) (t : Tree) → areTokens (flat t) ≡ true → areTokens (flat (fitted T s o t)) ≡ true
 fitted-tokens T s o t h = fitted-by (λ u. areTokens (flat u) ≡ true) T s o t (λ e. h) (λ e. tokens-bracket t h)
 
 -- Names and numbers as they are written.

@@ -29,8 +29,8 @@ use Rattle.grammar.specs.SpanTree.{
   present,
   fixity,
   root,
-  level,
-  Side,
+  rootPrecedence,
+  Position,
   onLeft,
   onRight,
   admits,
@@ -55,13 +55,13 @@ use Rattle.grammar.proofs.Positive.{Positive}
 use Rattle.grammar.proofs.Operators.{positive-declared}
 use Rattle.grammar.proofs.StripDeclarations.{declare-strip, strip-declarations}
 
-admits-lower : (s : Side) (p : Role) → 1 ≤ p .precedence → admits s p none ≡ true
-unfolding admits level
+admits-lower : (s : Position) (p : Role) → 1 ≤ p .precedence → admits s p none ≡ true
+unfolding admits rootPrecedence
 admits-lower s p h = rw (lt-ltb 0 (p .precedence) h)
 
 -- A fitted operand is the operand, where its place admits it, or the operand in a bracket, where its place refuses it.
 pub fitted-by :
-    (P : Tree → Type 0) (T : Table) (s : Side) (o : Option Role) (t : Tree)
+    (P : Tree → Type 0) (T : Table) (s : Position) (o : Option Role) (t : Tree)
     → (refuses s o (root T (spanTree t)) ≡ false → P t)
     → (refuses s o (root T (spanTree t)) ≡ true → P (bracket t))
     → P (fitted T s o t)
@@ -119,7 +119,7 @@ admitted-both (some p) a b e l r =
     and-intro (sym (Bool·not-not (admits onLeft p a)) ∙ ap not l) (sym (Bool·not-not (admits onRight p b)) ∙ ap not r)
 
 -- A place of the operator `m` of the fixity `f`.
-module _ (T : Table) (positive : Positive T) (s : Side) (m : Bytes) (f : Fixity) where
+module _ (T : Table) (positive : Positive T) (s : Position) (m : Bytes) (f : Fixity) where
   -- What has no operator at its root fits everywhere.
   refuses-none : refuses s (role T m f) none ≡ false
   unfolding refuses
@@ -155,7 +155,7 @@ module _ (T : Table) (positive : Positive T) (s : Side) (m : Bytes) (f : Fixity)
       fitted-by (InnerOk T) T s (role T m f) t (λ e. i) (λ e. ((a, refused-present (spanTree t) e), i))
 
 fitted-admitted :
-    (T : Table) (s : Side) (o : Option Role) (t : Tree) → Admitted T (spanTree t) → Admitted T (spanTree (fitted T s o t))
+    (T : Table) (s : Position) (o : Option Role) (t : Tree) → Admitted T (spanTree t) → Admitted T (spanTree (fitted T s o t))
 unfolding spanTree isOperand
 fitted-admitted T s o t a = fitted-by (λ u. Admitted T (spanTree u)) T s o t (λ e. a) (λ e. refl)
 
@@ -168,7 +168,7 @@ still-tight T needed (block ds t) p = p
 still-tight T needed (node l m r) p = p
 
 fitted-tight :
-    (T : Table) (s : Side) (o : Option Role) (t : Tree) → NoSpare T false t
+    (T : Table) (s : Position) (o : Option Role) (t : Tree) → NoSpare T false t
     → NoSpare T (refuses s o (root T (spanTree (unwrapped (fitted T s o t))))) (fitted T s o t)
 unfolding unwrapped
 fitted-tight T s o t p =

@@ -14,7 +14,7 @@ use Rattle.grammar.specs.Outcome.{refused, passed}
 use Rattle.grammar.specs.Scan.{Placed}
 use Rattle.grammar.specs.Operator.{Table, Conditions, lawfulTable, Distinct}
 use Rattle.grammar.specs.Declaration.{start, declareAll, declarations, enter, value}
-use Rattle.grammar.specs.SpanTree.{SpanTree, Admitted, root, level, yield}
+use Rattle.grammar.specs.SpanTree.{SpanTree, Admitted, root, rootPrecedence, yield}
 use Rattle.grammar.specs.Tree.{Tree, IsTree}
 use Rattle.grammar.specs.Search.{widest}
 use Rattle.grammar.specs.Nodes.{count, wordsPerNode}
@@ -111,7 +111,7 @@ pub same-canonical-text :
 same-canonical-text = same-text
 
 -- A tree's precedence is the widest among its own operators; it follows and is not part of what a tree is.
-pub widest-root : (T : Table) → Conditions T → (s : SpanTree) → Admitted T s → level (root T s) ≡ widest T (yield s)
+pub widest-root : (T : Table) → Conditions T → (s : SpanTree) → Admitted T s → rootPrecedence (root T s) ≡ widest T (yield s)
 widest-root = root-widest
 
 -- Digit strings lose their zeros to the same bytes exactly where their values are equal.

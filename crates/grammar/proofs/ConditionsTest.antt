@@ -28,11 +28,11 @@ use Rattle.grammar.specs.Operator.{
   declareRole,
   Lawful,
   Conditions,
-  oneLevelTest,
+  onePrecedenceTest,
   only,
   absentRole,
   besideInfix,
-  lawfulSides,
+  lawfulAssociativities,
   lawful,
   lawfulTable,
 }
@@ -42,18 +42,18 @@ use Rattle.grammar.proofs.Operators.{both}
 
 -- The parts of the test.
 record Parts (r : Roles) : Type 0 where
-  prefixInfix : oneLevelTest (r Prefix) (r Infix) ≡ true
-  infixPostfix : oneLevelTest (r Infix) (r Postfix) ≡ true
-  prefixPostfix : oneLevelTest (r Prefix) (r Postfix) ≡ true
-  sides : lawfulSides (r Prefix) (r Infix) (r Postfix) ≡ true
+  prefixInfix : onePrecedenceTest (r Prefix) (r Infix) ≡ true
+  infixPostfix : onePrecedenceTest (r Infix) (r Postfix) ≡ true
+  prefixPostfix : onePrecedenceTest (r Prefix) (r Postfix) ≡ true
+  sides : lawfulAssociativities (r Prefix) (r Infix) (r Postfix) ≡ true
 
 parts : (r : Roles) → lawful r ≡ true → Parts r
 unfolding lawful
 parts r e =
-    let a : Bool = oneLevelTest (r Prefix) (r Infix) in
-    let b : Bool = oneLevelTest (r Infix) (r Postfix) in
-    let c : Bool = oneLevelTest (r Prefix) (r Postfix) in
-    let d : Bool = lawfulSides (r Prefix) (r Infix) (r Postfix) in
+    let a : Bool = onePrecedenceTest (r Prefix) (r Infix) in
+    let b : Bool = onePrecedenceTest (r Infix) (r Postfix) in
+    let c : Bool = onePrecedenceTest (r Prefix) (r Postfix) in
+    let d : Bool = lawfulAssociativities (r Prefix) (r Infix) (r Postfix) in
     let abc : a && b && c ≡ true = and-left (a && b && c) d e in
     let ab : a && b ≡ true = and-left (a && b) c abc in
     record {
@@ -64,18 +64,18 @@ parts r e =
     }
 
 -- Condition 1 of two roles.
-level-sound :
-    (x y : Option Role) → oneLevelTest x y ≡ true → (a b : Role) → x ≡ some a → y ≡ some b → a .precedence ≡ b .precedence
-unfolding oneLevelTest
-level-sound x y e a b p q = eqb-true (a .precedence) (b .precedence) (rw (p, q) at e)
+precedence-sound :
+    (x y : Option Role) → onePrecedenceTest x y ≡ true → (a b : Role) → x ≡ some a → y ≡ some b → a .precedence ≡ b .precedence
+unfolding onePrecedenceTest
+precedence-sound x y e a b p q = eqb-true (a .precedence) (b .precedence) (rw (p, q) at e)
 
-level-complete :
-    (x y : Option Role) → ((a b : Role) → x ≡ some a → y ≡ some b → a .precedence ≡ b .precedence) → oneLevelTest x y ≡ true
-unfolding oneLevelTest
-level-complete none none h = refl
-level-complete none (some b) h = refl
-level-complete (some a) none h = refl
-level-complete (some a) (some b) h = eq-eqb (a .precedence) (b .precedence) (h a b refl refl)
+precedence-complete :
+    (x y : Option Role) → ((a b : Role) → x ≡ some a → y ≡ some b → a .precedence ≡ b .precedence) → onePrecedenceTest x y ≡ true
+unfolding onePrecedenceTest
+precedence-complete none none h = refl
+precedence-complete none (some b) h = refl
+precedence-complete (some a) none h = refl
+precedence-complete (some a) (some b) h = eq-eqb (a .precedence) (b .precedence) (h a b refl refl)
 
 -- A role, where there is one, has the associativity.
 same-associativity : (a b : Associativity) → sameAssociativity a b ≡ true → b ≡ a
@@ -118,7 +118,7 @@ absent-complete x e = rw e
 beside-sound :
     (r : Roles) → lawful r ≡ true → (a : Role) → r Infix ≡ some a → (c : Associativity) → a .associativity ≡ c
     → besideInfix c (r Prefix) (r Postfix) ≡ true
-unfolding lawfulSides
+unfolding lawfulAssociativities
 beside-sound r e a p c s = rw (p, s) at (parts r e .sides)
 
 beside-complete :
@@ -132,29 +132,29 @@ beside-complete r l a p right s =
 beside-complete r l a p non s =
     and-intro (only-complete non (r Prefix) (l .infixNon a p s Prefix)) (only-complete non (r Postfix) (l .infixNon a p s Postfix))
 
-sides-complete : (r : Roles) → Lawful r → lawfulSides (r Prefix) (r Infix) (r Postfix) ≡ true
-unfolding lawfulSides
+sides-complete : (r : Roles) → Lawful r → lawfulAssociativities (r Prefix) (r Infix) (r Postfix) ≡ true
+unfolding lawfulAssociativities
 sides-complete r l = go (r Infix) refl
   where
-    go : (x : Option Role) → r Infix ≡ x → lawfulSides (r Prefix) x (r Postfix) ≡ true
+    go : (x : Option Role) → r Infix ≡ x → lawfulAssociativities (r Prefix) x (r Postfix) ≡ true
     go none e = refl
     go (some a) e = beside-complete r l a e (a .associativity) refl
 
 -- The test of the roles of one name is sound ..
 pub lawful-sound : (r : Roles) → lawful r ≡ true → Lawful r
 unfolding besideInfix
-lawful-sound r e = record { oneLevel = level; infixNon = besideNon; infixLeft = besideLeft; infixRight = besideRight }
+lawful-sound r e = record { onePrecedence = equal; infixNon = besideNon; infixLeft = besideLeft; infixRight = besideRight }
   where
-    level : (f g : Fixity) (a b : Role) → r f ≡ some a → r g ≡ some b → a .precedence ≡ b .precedence
-    level Prefix Prefix a b p q = cc
-    level Prefix Infix a b p q = level-sound (r Prefix) (r Infix) (parts r e .prefixInfix) a b p q
-    level Prefix Postfix a b p q = level-sound (r Prefix) (r Postfix) (parts r e .prefixPostfix) a b p q
-    level Infix Prefix a b p q = sym (level-sound (r Prefix) (r Infix) (parts r e .prefixInfix) b a q p)
-    level Infix Infix a b p q = cc
-    level Infix Postfix a b p q = level-sound (r Infix) (r Postfix) (parts r e .infixPostfix) a b p q
-    level Postfix Prefix a b p q = sym (level-sound (r Prefix) (r Postfix) (parts r e .prefixPostfix) b a q p)
-    level Postfix Infix a b p q = sym (level-sound (r Infix) (r Postfix) (parts r e .infixPostfix) b a q p)
-    level Postfix Postfix a b p q = cc
+    equal : (f g : Fixity) (a b : Role) → r f ≡ some a → r g ≡ some b → a .precedence ≡ b .precedence
+    equal Prefix Prefix a b p q = cc
+    equal Prefix Infix a b p q = precedence-sound (r Prefix) (r Infix) (parts r e .prefixInfix) a b p q
+    equal Prefix Postfix a b p q = precedence-sound (r Prefix) (r Postfix) (parts r e .prefixPostfix) a b p q
+    equal Infix Prefix a b p q = sym (precedence-sound (r Prefix) (r Infix) (parts r e .prefixInfix) b a q p)
+    equal Infix Infix a b p q = cc
+    equal Infix Postfix a b p q = precedence-sound (r Infix) (r Postfix) (parts r e .infixPostfix) a b p q
+    equal Postfix Prefix a b p q = sym (precedence-sound (r Prefix) (r Postfix) (parts r e .prefixPostfix) b a q p)
+    equal Postfix Infix a b p q = sym (precedence-sound (r Infix) (r Postfix) (parts r e .infixPostfix) b a q p)
+    equal Postfix Postfix a b p q = cc
 
     besideNon :
         (a : Role) → r Infix ≡ some a → a .associativity ≡ non → (f : Fixity) (b : Role) → r f ≡ some b → b .associativity ≡ non
@@ -181,10 +181,10 @@ lawful-sound r e = record { oneLevel = level; infixNon = besideNon; infixLeft = 
 -- .. and complete.
 pub lawful-complete : (r : Roles) → Lawful r → lawful r ≡ true
 unfolding lawful
-lawful-complete r l = and-intro (and-intro (and-intro (level Prefix Infix) (level Infix Postfix)) (level Prefix Postfix)) (sides-complete r l)
+lawful-complete r l = and-intro (and-intro (and-intro (equal Prefix Infix) (equal Infix Postfix)) (equal Prefix Postfix)) (sides-complete r l)
   where
-    level : (f g : Fixity) → oneLevelTest (r f) (r g) ≡ true
-    level f g = level-complete (r f) (r g) (l .oneLevel f g)
+    equal : (f g : Fixity) → onePrecedenceTest (r f) (r g) ≡ true
+    equal f g = precedence-complete (r f) (r g) (l .onePrecedence f g)
 
 -- A lookup gives the roles of the first operator if it has the name, and of the rest otherwise.
 lawful-first : (o : Operator) (T : Table) (m : Bytes) → same m (o .name) ≡ true → lawful (role (o ∷ T) m) ≡ lawful (o .roles)
@@ -196,7 +196,7 @@ unfolding lawful role
 lawful-rest o T m e = rw (e, role)
 
 lawful-found : (T : Table) (m : Bytes) → lawfulTable T ≡ true → lawful (role T m) ≡ true
-unfolding lawfulTable lawful role oneLevelTest lawfulSides
+unfolding lawfulTable lawful role onePrecedenceTest lawfulAssociativities
 lawful-found [] m e = refl
 lawful-found (o ∷ T) m e =
     let (h, k) = both (lawful (o .roles)) (lawfulTable T) e in
@@ -221,7 +221,7 @@ unlisted-role (o ∷ T) m f e = go (same m (o .name)) refl (unlisted-role T m f)
     go false d h = rw (d, role) (h (rw (d, listed) at e))
 
 unlisted-lawful : (T : Table) (m : Bytes) → listed m T ≡ false → lawful (role T m) ≡ true
-unfolding lawful oneLevelTest lawfulSides
+unfolding lawful onePrecedenceTest lawfulAssociativities
 unlisted-lawful T m e =
     let h : role T m ≡ (λ f. none) = fun-ext (λ f. unlisted-role T m f e) in
     rw h
@@ -245,5 +245,5 @@ conditions-complete T p c = found-lawful T p (λ m. lawful-complete (role T m) (
 
 -- The eight operators at the start satisfy the conditions.
 pub conditions-start : Conditions start
-unfolding start startDeclarations declareAll declare declareRole same value valueFrom replaced sameFixity lawfulTable lawful oneLevelTest lawfulSides besideInfix only absentRole sameAssociativity
+unfolding start startDeclarations declareAll declare declareRole same value valueFrom replaced sameFixity lawfulTable lawful onePrecedenceTest lawfulAssociativities besideInfix only absentRole sameAssociativity
 conditions-start = conditions-sound start refl

@@ -22,13 +22,13 @@ use Rattle.grammar.specs.SpanTree.{
   fixityBy,
   fixity,
   root,
-  level,
+  rootPrecedence,
   isLeft,
   isRight,
   rightRoot,
   onLeft,
   onRight,
-  admitsSameLevel,
+  admitsEqual,
   Admitted,
   isOperand,
 }
@@ -54,7 +54,7 @@ use Rattle.grammar.proofs.SpanRoot.{
   placed,
   root-fixity,
   root-widest,
-  admits-level,
+  admits-precedence,
   admits-lt,
   operator-of,
   operand-no-operator,
@@ -175,8 +175,8 @@ right-not-left right e = refl
 right-not-left non e = refl
 
 module _ (T : Table) (lawful : Conditions T) where
-  -- A part whose level is below that of the operator.
-  part-below : (s : SpanTree) (p : ℕ) → Admitted T s → level (root T s) < p → widest T (yield s) < p
+  -- A part whose precedence is below that of the operator.
+  part-below : (s : SpanTree) (p : ℕ) → Admitted T s → rootPrecedence (root T s) < p → widest T (yield s) < p
   part-below s p a h = omega (arith, root-widest T lawful s a)
 
   -- The root of a tree, with its role `own`.
@@ -199,20 +199,20 @@ module _ (T : Table) (lawful : Conditions T) where
     unfolding yield
     first-root = first-cut T (own .precedence) (yield l) m (yield r) root-of
 
-    root-level : level (root T (apply l m r)) ≡ own .precedence
-    unfolding root level
-    root-level = ap level (top .known)
+    root-precedence : rootPrecedence (root T (apply l m r)) ≡ own .precedence
+    unfolding root rootPrecedence
+    root-precedence = ap rootPrecedence (top .known)
 
   -- Where the root is not right-associative, the first operator of its precedence could not be so.
   first-not-right :
-      (s : SpanTree) → Admitted T s → rightRoot (root T s) ≡ false → rightIn T (firstOf T (level (root T s)) (yield s)) ≡ false
-  unfolding yield root level rightRoot firstOf admitsSameLevel
+      (s : SpanTree) → Admitted T s → rightRoot (root T s) ≡ false → rightIn T (firstOf T (rootPrecedence (root T s)) (yield s)) ≡ false
+  unfolding yield root rootPrecedence rightRoot firstOf admitsEqual
   first-not-right missing a e = refl
   first-not-right (operand i) a e = rw (operand-first T 0 i a)
   first-not-right (apply l m r) a e =
-      let before = inLeft (first-not-right l (a .0)) (admits-level onLeft q (root T l) (top l m r a .leftFits)) in
+      let before = inLeft (first-not-right l (a .0)) (admits-precedence onLeft q (root T l) (top l m r a .leftFits)) in
       let itself = could-not-be-right T m q (yield l) (yield r) (lawful m) (own-at l m r a) (rw (top l m r a .known) at e) in
-      rw (root-level l m r a, first-root l m r a) (earlier-not-right T (firstOf T p (yield l)) (yield l) m (yield r) before itself)
+      rw (root-precedence l m r a, first-root l m r a) (earlier-not-right T (firstOf T p (yield l)) (yield l) m (yield r) before itself)
     where
       q : Role
       q = own l m r a
@@ -221,7 +221,7 @@ module _ (T : Table) (lawful : Conditions T) where
       p = q .precedence
 
       inLeft :
-          (rightRoot (root T l) ≡ false → rightIn T (firstOf T (level (root T l)) (yield l)) ≡ false)
+          (rightRoot (root T l) ≡ false → rightIn T (firstOf T (rootPrecedence (root T l)) (yield l)) ≡ false)
           → Fits onLeft q (root T l) → rightIn T (firstOf T p (yield l)) ≡ false
       inLeft ih (inl lower) = rw (below-first T p (yield l) (part-below l p (a .0) lower))
       inLeft ih (inr same) =
@@ -234,13 +234,13 @@ module _ (T : Table) (lawful : Conditions T) where
 
     -- A right-associative root is the first of its precedence, and if it could not be so there, the last one too.
     found-right : isRight (own l m r a .associativity) ≡ true → Found
-    unfolding rootIn admitsSameLevel yield lastOf
+    unfolding rootIn admitsEqual yield lastOf
     found-right s = go (either (couldBeRight T (cutAt (yield l) m (yield r))))
       where
         q : Role
         q = own l m r a
 
-        lower : level (root T l) < q .precedence
+        lower : rootPrecedence (root T l) < q .precedence
         lower = admits-lt onLeft q (root T l) (top l m r a .leftFits) (rw (right-not-left (q .associativity) s))
 
         first : firstOf T (q .precedence) (yield (apply l m r)) ≡ some (cutAt (yield l) m (yield r))
@@ -254,7 +254,7 @@ module _ (T : Table) (lawful : Conditions T) where
 
     -- Any other root is the last of its precedence, and the first could not be right-associative.
     found-other : isRight (own l m r a .associativity) ≡ false → Found
-    unfolding rootIn admitsSameLevel root yield rightRoot
+    unfolding rootIn admitsEqual root yield rightRoot
     found-other s =
         let after = below-last T p (yield r) (part-below r p (a .1) lower) in
         rw (first-root l m r a, rootIn, not-right) (last-cut T p (yield l) m (yield r) (root-of l m r a) after)
@@ -262,11 +262,11 @@ module _ (T : Table) (lawful : Conditions T) where
         p : ℕ
         p = own l m r a .precedence
 
-        lower : level (root T r) < p
+        lower : rootPrecedence (root T r) < p
         lower = admits-lt onRight (own l m r a) (root T r) (top l m r a .rightFits) s
 
         not-right : couldBeRight T (earlier (firstOf T p (yield l)) (yield l) m (yield r)) ≡ false
-        not-right = rw (root-level l m r a, first-root l m r a) at (first-not-right (apply l m r) a (rw (top l m r a .known) s))
+        not-right = rw (root-precedence l m r a, first-root l m r a) at (first-not-right (apply l m r) a (rw (top l m r a .known) s))
 
   -- Where every root is.
   pub root-found :
@@ -274,7 +274,7 @@ module _ (T : Table) (lawful : Conditions T) where
       → rootOf T (yield (apply l m r)) ≡ some (record { before = yield l; operator = m; after = yield r })
   unfolding rootOf
   root-found l m r a =
-      rw (← (root-widest T lawful (apply l m r) a), root-level l m r a) (go (either (isRight (own l m r a .associativity))))
+      rw (← (root-widest T lawful (apply l m r) a), root-precedence l m r a) (go (either (isRight (own l m r a .associativity))))
     where
       go : (isRight (own l m r a .associativity) ≡ true) ⊎ (isRight (own l m r a .associativity) ≡ false) → Found l m r a
       go (inl s) = found-right l m r a s

@@ -1,5 +1,5 @@
 -- The root of an admitted tree: its fixity is said by the items before and after it, and its precedence is the widest of the tree's
--- operators, since an admitted operand has at most the level of its operator.
+-- operators, since an admitted operand has at most the precedence of its operator.
 use mathlib.Core.Path.{_≡_, refl, sym, ap₂}
 use mathlib.Core.Bool.{Bool, true, false, _&&_, _||_, not, true≢false}
 use mathlib.Core.Logic.{_⊎_, inl, inr}
@@ -37,11 +37,11 @@ use Rattle.grammar.specs.SpanTree.{
   fixityBy,
   fixity,
   root,
-  level,
-  Side,
+  rootPrecedence,
+  Position,
   onLeft,
   onRight,
-  admitsSameLevel,
+  admitsEqual,
   admits,
   admitsBoth,
   Admitted,
@@ -88,37 +88,37 @@ placed T l m r a = go (role T m (fixity l r)) refl (a .3)
           rightFits = and-right (admits onLeft q (root T l)) (admits onRight q (root T r)) h;
         }
 
--- An admitted operand has a lower level than its operator, or the same where that is admitted.
-abbrev pub Fits : Side → Role → Option Role → Type 0
-Fits s q o = (level o < q .precedence) ⊎ ((level o ≡ q .precedence) × (admitsSameLevel s q o ≡ true))
+-- An admitted operand has a lower precedence than its operator, or the same where that is admitted.
+abbrev pub Fits : Position → Role → Option Role → Type 0
+Fits s q o = (rootPrecedence o < q .precedence) ⊎ ((rootPrecedence o ≡ q .precedence) × (admitsEqual s q o ≡ true))
 
-pub admits-level : (s : Side) (q : Role) (o : Option Role) → admits s q o ≡ true → Fits s q o
+pub admits-precedence : (s : Position) (q : Role) (o : Option Role) → admits s q o ≡ true → Fits s q o
 unfolding admits
-admits-level s q o h = go (or-cases lower (equal && admitsSameLevel s q o) h)
+admits-precedence s q o h = go (or-cases lower (equal && admitsEqual s q o) h)
   where
     lower : Bool
-    lower = ltb (level o) (q .precedence)
+    lower = ltb (rootPrecedence o) (q .precedence)
 
     equal : Bool
-    equal = eqb (level o) (q .precedence)
+    equal = eqb (rootPrecedence o) (q .precedence)
 
-    go : (lower ≡ true) ⊎ (equal && admitsSameLevel s q o ≡ true) → Fits s q o
-    go (inl e) = inl (ltb-true (level o) (q .precedence) e)
+    go : (lower ≡ true) ⊎ (equal && admitsEqual s q o ≡ true) → Fits s q o
+    go (inl e) = inl (ltb-true (rootPrecedence o) (q .precedence) e)
     go (inr e) =
-        let same = eqb-true (level o) (q .precedence) (and-left equal (admitsSameLevel s q o) e) in
-        inr (same, and-right equal (admitsSameLevel s q o) e)
+        let same = eqb-true (rootPrecedence o) (q .precedence) (and-left equal (admitsEqual s q o) e) in
+        inr (same, and-right equal (admitsEqual s q o) e)
 
-admits-le : (s : Side) (q : Role) (o : Option Role) → admits s q o ≡ true → level o ≤ q .precedence
-admits-le s q o h = go (admits-level s q o h)
+admits-le : (s : Position) (q : Role) (o : Option Role) → admits s q o ≡ true → rootPrecedence o ≤ q .precedence
+admits-le s q o h = go (admits-precedence s q o h)
   where
-    go : Fits s q o → level o ≤ q .precedence
+    go : Fits s q o → rootPrecedence o ≤ q .precedence
     go (inl e) = omega arith
     go (inr e) = omega arith
 
-pub admits-lt : (s : Side) (q : Role) (o : Option Role) → admits s q o ≡ true → admitsSameLevel s q o ≡ false → level o < q .precedence
-admits-lt s q o h n = go (admits-level s q o h)
+pub admits-lt : (s : Position) (q : Role) (o : Option Role) → admits s q o ≡ true → admitsEqual s q o ≡ false → rootPrecedence o < q .precedence
+admits-lt s q o h n = go (admits-precedence s q o h)
   where
-    go : Fits s q o → level o < q .precedence
+    go : Fits s q o → rootPrecedence o < q .precedence
     go (inl e) = e
     go (inr e) = absurd (clash (e .1) n)
 
@@ -138,7 +138,7 @@ has-role r Postfix q e = rw e (go (isSome (r Prefix) || isSome (r Infix)))
     go false = refl
 
 precedence-role : (r : Roles) → Lawful r → (f : Fixity) (q : Role) → r f ≡ some q → precedence r ≡ q .precedence
-unfolding precedence firstRole level
+unfolding precedence firstRole rootPrecedence
 precedence-role r h f q e = go (r Infix) refl (r Prefix) refl (r Postfix) refl
   where
     none-of : r Infix ≡ none → r Prefix ≡ none → r Postfix ≡ none → (f : Fixity) → r f ≡ none
@@ -148,10 +148,10 @@ precedence-role r h f q e = go (r Infix) refl (r Prefix) refl (r Postfix) refl
 
     go :
         (i : Option Role) → r Infix ≡ i → (p : Option Role) → r Prefix ≡ p → (o : Option Role) → r Postfix ≡ o
-        → level (firstRole i (firstRole p o)) ≡ q .precedence
-    go (some a) i p p′ o o′ = h .oneLevel Infix f a q i e
-    go none i (some a) p o o′ = h .oneLevel Prefix f a q p e
-    go none i none p (some a) o = h .oneLevel Postfix f a q o e
+        → rootPrecedence (firstRole i (firstRole p o)) ≡ q .precedence
+    go (some a) i p p′ o o′ = h .onePrecedence Infix f a q i e
+    go none i (some a) p o o′ = h .onePrecedence Prefix f a q p e
+    go none i none p (some a) o = h .onePrecedence Postfix f a q o e
     go none i none p none o = cc (none-of i p o f)
 
 -- An operator in a role of it, found as an item.
@@ -203,15 +203,15 @@ operand-no-operator T i e = go (symbolAt i) refl
         rw (s, operatorAt, not-true (hasRole (role T w)) t)
 
 -- Each tree's precedence is the widest among its own operators.
-pub root-widest : (T : Table) → Conditions T → (s : SpanTree) → Admitted T s → level (root T s) ≡ widest T (yield s)
-unfolding root level yield widest precedenceAt
+pub root-widest : (T : Table) → Conditions T → (s : SpanTree) → Admitted T s → rootPrecedence (root T s) ≡ widest T (yield s)
+unfolding root rootPrecedence yield widest precedenceAt
 root-widest T h missing a = refl
 root-widest T h (operand i) a = rw (operand-no-operator T i a, precedenceAt)
 root-widest T h (apply l m r) a = go (placed T l m r a) (root-widest T h l (a .0)) (root-widest T h r (a .1))
   where
     go :
-        Placed T l m r → level (root T l) ≡ widest T (yield l) → level (root T r) ≡ widest T (yield r)
-        → level (role T m (fixity l r)) ≡ widest T (yield l ++ single (symbol m) ∷ yield r)
+        Placed T l m r → rootPrecedence (root T l) ≡ widest T (yield l) → rootPrecedence (root T r) ≡ widest T (yield r)
+        → rootPrecedence (role T m (fixity l r)) ≡ widest T (yield l ++ single (symbol m) ∷ yield r)
     go c p q =
         let here = precedence-at T m (fixity l r) (c .own) (c .known) (h m) in
         let before = admits-le onLeft (c .own) (root T l) (c .leftFits) in

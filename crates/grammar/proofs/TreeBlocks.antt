@@ -12,7 +12,7 @@ use Rattle.grammar.specs.Outcome.{Outcome, refused, passed, andThen}
 use Rattle.grammar.specs.Operator.{Role, Table, role}
 use Rattle.grammar.specs.Declaration.{Declaration, declareAll, declarations, allTokens, enter}
 use Rattle.grammar.specs.Span.{Item, single, pair, scope, items, itemTokens}
-use Rattle.grammar.specs.SpanTree.{yield, Side, onLeft, onRight, admits, root, fixity}
+use Rattle.grammar.specs.SpanTree.{yield, Position, onLeft, onRight, admits, root, fixity}
 use Rattle.grammar.specs.Tree.{Tree, nothing, leaf, bracket, block, node, flat, spanTree, InnerOk}
 use Rattle.grammar.specs.Blocks.{checkItem, checkItems, checkBlocks}
 use Rattle.grammar.specs.Canonical.{stripDeclaration, fitted, canonical}
@@ -101,7 +101,7 @@ enters-checked (suc j) T t h p e i =
     (passes-all (checkBlocks j) T (yield (spanTree t)) (part-passes j (enters-checked j) T t h p e) i)
 
 -- The canonical tree's blocks pass where the tree's own do.
-fitted-enters : (T : Table) (s : Side) (r : Option Role) (t : Tree) → Enters T t → Enters T (fitted T s r t)
+fitted-enters : (T : Table) (s : Position) (r : Option Role) (t : Tree) → Enters T t → Enters T (fitted T s r t)
 unfolding fitted
 fitted-enters T s none t e = e
 fitted-enters T s (some r) t e = go (admits s r (root T (spanTree t))) refl

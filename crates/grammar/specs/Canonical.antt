@@ -22,7 +22,7 @@ use Rattle.grammar.specs.Token.{
 }
 use Rattle.grammar.specs.Operator.{Role, Table, role, inForce}
 use Rattle.grammar.specs.Declaration.{Declaration, declares, clears, declareAll}
-use Rattle.grammar.specs.SpanTree.{Side, onLeft, onRight, admits, fixity, root}
+use Rattle.grammar.specs.SpanTree.{Position, onLeft, onRight, admits, fixity, root}
 use Rattle.grammar.specs.Tree.{Tree, nothing, leaf, bracket, block, node, flat, spanTree}
 
 -- "Numbers lose leading zeros (0 remains `0`)".
@@ -58,7 +58,7 @@ writtenToken T keywordIn = keywordIn
 writtenToken T keywordEnd = keywordEnd
 
 -- "bracket exactly those operands that their place doesn't admit": the operand `t` at the side `s` of an operator in the role.
-unfoldable pub fitted : Table → Side → Option Role → Tree → Tree
+unfoldable pub fitted : Table → Position → Option Role → Tree → Tree
 fitted T s none t = t
 fitted T s (some r) t = elim (admits s r (root T (spanTree t))) [ true ↦ t | false ↦ bracket t ]
 
@@ -94,7 +94,7 @@ unwrapped (bracket t) = t
 unwrapped (block ds t) = block ds t
 unwrapped (node l m r) = node l m r
 
-unfoldable pub refuses : Side → Option Role → Option Role → Bool
+unfoldable pub refuses : Position → Option Role → Option Role → Bool
 refuses s none o = false
 refuses s (some r) o = not (admits s r o)
 

@@ -102,7 +102,7 @@ removeRoles m (o ∷ T) = elim (same m (o .name)) [ true ↦ removeRoles m T | f
 -- "At `in`, every mark in force must satisfy":
 pub record Lawful (r : Roles) : Type 0 where
   -- "1. all its roles have the same level"
-  pub oneLevel : (f g : Fixity) (a b : Role) → r f ≡ some a → r g ≡ some b → a .precedence ≡ b .precedence
+  pub onePrecedence : (f g : Fixity) (a b : Role) → r f ≡ some a → r g ≡ some b → a .precedence ≡ b .precedence
   -- "2. infix non: its other roles are non"
   pub infixNon : (a : Role) → r Infix ≡ some a → a .associativity ≡ non → (f : Fixity) (b : Role) → r f ≡ some b → b .associativity ≡ non
   -- "3. infix left: prefix is non, postfix is left"
@@ -119,11 +119,11 @@ abbrev pub Conditions : Table → Type 0
 Conditions T = (m : Bytes) → Lawful (role T m)
 
 -- The four conditions as a test.
-unfoldable pub oneLevelTest : Option Role → Option Role → Bool
-oneLevelTest none none = true
-oneLevelTest none (some b) = true
-oneLevelTest (some a) none = true
-oneLevelTest (some a) (some b) = eqb (a .precedence) (b .precedence)
+unfoldable pub onePrecedenceTest : Option Role → Option Role → Bool
+onePrecedenceTest none none = true
+onePrecedenceTest none (some b) = true
+onePrecedenceTest (some a) none = true
+onePrecedenceTest (some a) (some b) = eqb (a .precedence) (b .precedence)
 
 -- A role, where there is one, has that associativity.
 unfoldable pub only : Associativity → Option Role → Bool
@@ -140,14 +140,14 @@ besideInfix non p q = only non p && only non q
 besideInfix left p q = only non p && only left q
 besideInfix right p q = only right p && absentRole q
 
-unfoldable pub lawfulSides : Option Role → Option Role → Option Role → Bool
-lawfulSides p none q = true
-lawfulSides p (some a) q = besideInfix (a .associativity) p q
+unfoldable pub lawfulAssociativities : Option Role → Option Role → Option Role → Bool
+lawfulAssociativities p none q = true
+lawfulAssociativities p (some a) q = besideInfix (a .associativity) p q
 
 unfoldable pub lawful : Roles → Bool
 lawful r =
-    oneLevelTest (r Prefix) (r Infix) && oneLevelTest (r Infix) (r Postfix) && oneLevelTest (r Prefix) (r Postfix)
-    && lawfulSides (r Prefix) (r Infix) (r Postfix)
+    onePrecedenceTest (r Prefix) (r Infix) && onePrecedenceTest (r Infix) (r Postfix) && onePrecedenceTest (r Prefix) (r Postfix)
+    && lawfulAssociativities (r Prefix) (r Infix) (r Postfix)
 
 unfoldable pub lawfulTable : Table → Bool
 lawfulTable [] = true

@@ -28,7 +28,7 @@ use Rattle.grammar.specs.SpanTree.{
   present,
   fixity,
   root,
-  level,
+  rootPrecedence,
   rightRoot,
   admitsBoth,
   isOperand,
@@ -40,7 +40,7 @@ firstRole (some a) b = some a
 
 -- The precedence of an operator: that of any of its roles, which the first condition makes the same.
 unfoldable pub precedence : Roles → ℕ
-precedence r = level (firstRole (r Infix) (firstRole (r Prefix) (r Postfix)))
+precedence r = rootPrecedence (firstRole (r Infix) (firstRole (r Prefix) (r Postfix)))
 
 unfoldable pub symbolAt : Item → Option Bytes
 symbolAt (single (symbol w)) = some w

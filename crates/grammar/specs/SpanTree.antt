@@ -68,9 +68,9 @@ root T (operand i) = none
 root T (apply l m r) = role T m (fixity l r)
 
 -- "Names, numbers, brackets and blocks have level 0; an operator's tree has the level of its mark."
-unfoldable pub level : Option Role → ℕ
-level none = 0
-level (some r) = r .precedence
+unfoldable pub rootPrecedence : Option Role → ℕ
+rootPrecedence none = 0
+rootPrecedence (some r) = r .precedence
 
 unfoldable pub isLeft : Associativity → Bool
 isLeft left = true
@@ -87,18 +87,18 @@ rightRoot none = false
 rightRoot (some r) = isRight (r .associativity)
 
 -- Where an operand stands (not what 01 calls a side, which is an associativity).
-pub data Side : Type 0 where
-  onLeft onRight : Side
+pub data Position : Type 0 where
+  onLeft onRight : Position
 
 -- "It may have the same level only as the operand on the right of a right-sided prefix or infix mark; or as the operand on the
 -- left of a left-sided infix or postfix mark, where the operand's own root is not right-sided."
-unfoldable pub admitsSameLevel : Side → Role → Option Role → Bool
-admitsSameLevel onRight r o = isRight (r .associativity)
-admitsSameLevel onLeft r o = isLeft (r .associativity) && not (rightRoot o)
+unfoldable pub admitsEqual : Position → Role → Option Role → Bool
+admitsEqual onRight r o = isRight (r .associativity)
+admitsEqual onLeft r o = isLeft (r .associativity) && not (rightRoot o)
 
 -- "An operand may have a lower level than its operator." `r` is the operator's role, `o` that of the operand's root.
-unfoldable pub admits : Side → Role → Option Role → Bool
-admits s r o = ltb (level o) (r .precedence) || (eqb (level o) (r .precedence) && admitsSameLevel s r o)
+unfoldable pub admits : Position → Role → Option Role → Bool
+admits s r o = ltb (rootPrecedence o) (r .precedence) || (eqb (rootPrecedence o) (r .precedence) && admitsEqual s r o)
 
 -- A role in force that admits the operands, where they are there.
 unfoldable pub admitsBoth : Option Role → Option Role → Option Role → Bool

@@ -7,26 +7,6 @@ ghost use Rattle.grammar.specs.Token.{class as classOf};
 ghost use Rattle.grammar.specs.Scan.{run as runOf};
 ghost use Rattle.scan.specs.Runs.{goesOn};
 
-pub const BLANK: u8 = 0;
-
-pub const LETTER: u8 = 1;
-
-pub const DIGIT: u8 = 2;
-
-pub const UNDERSCORE: u8 = 3;
-
-pub const SIGN: u8 = 4;
-
-pub const QUOTE: u8 = 5;
-
-pub const OPENS: u8 = 6;
-
-pub const CLOSES: u8 = 7;
-
-pub const SEPARATES: u8 = 8;
-
-pub const OTHER: u8 = 9;
-
 // The class of a byte.
 pub fn class(b: u8) -> u8
     ensures { λ r. ⌜ r ≡ classOf b ⌝ }

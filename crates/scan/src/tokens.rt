@@ -8,24 +8,6 @@ ghost use Rattle.grammar.specs.Token.{letter};
 ghost use Rattle.grammar.specs.Coded.{kindOf, charactersIn};
 ghost use Rattle.scan.specs.Tokens.{codedFront, Short, Scanning, madeOf};
 
-pub const SYMBOL: u8 = 1;
-
-pub const NUMBER: u8 = 2;
-
-pub const QUOTED: u8 = 3;
-
-pub const OPENING: u8 = 4;
-
-pub const CLOSING: u8 = 5;
-
-pub const SEMICOLON: u8 = 6;
-
-pub const LET: u8 = 7;
-
-pub const IN: u8 = 8;
-
-pub const END: u8 = 9;
-
 // What stands at a place of a text: nothing, the number of a refusal, or a token's kind and its length in bytes.
 pub enum Front {
     Nothing,

@@ -23,7 +23,7 @@ use Rattle.search.specs.Slots.{
   isOf,
   widestSlot,
   admitsCode,
-  sideOf,
+  positionOf,
   noTree,
 }
 use Rattle.search.proofs.Roles.{coded, role-none, role-some, operator-coded, of-operator, of-operand, precedence-postfix}
@@ -130,6 +130,6 @@ module _ (T : Table) where
 -- A role's number admits what the role admits.
 pub admits-coded :
     (o l r : Option Role) → (admitsCode false (roleCode o) (roleCode l) && admitsCode true (roleCode o) (roleCode r)) ≡ admitsBoth o l r
-unfolding admitsCode admitsBoth sideOf
+unfolding admitsCode admitsBoth positionOf
 admits-coded none l r = rw (role-coded none, admitsCode)
 admits-coded (some q) l r = rw (role-coded (some q), role-coded l, role-coded r, admitsCode)

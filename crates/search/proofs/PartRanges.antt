@@ -115,9 +115,9 @@ module _ (P I Q : List ℕ) (from to : ℕ) (ok : from ≤ to) where
         (ltb-same (suc (at - from)) (length (range P I Q from to)) (at + 1) to (λ k. omega arith) (λ k. omega arith)))
 
     -- Its precedence is the widest ..
-    root-level : precedenceOf (getD P at 0) (getD I at 0) (getD Q at 0) ≡ widestSlot (range P I Q from to)
+    root-precedence : precedenceOf (getD P at 0) (getD I at 0) (getD Q at 0) ≡ widestSlot (range P I Q from to)
     unfolding slotPrecedence
-    root-level =
+    root-precedence =
         let f = root-found from to (range P I Q from to) (omega arith) .here in
         let S = range P I Q from to in
         sym (ap slotPrecedence (range-at P I Q from to at root-begins h))
@@ -128,13 +128,13 @@ module _ (P I Q : List ℕ) (from to : ℕ) (ok : from ≤ to) where
     bounded-before =
         let S = range P I Q from to in
         let w = subst (λ ss. widestSlot ss ≤ widestSlot S) before-range (widest-take (at - from) S) in
-        omega (arith, root-level)
+        omega (arith, root-precedence)
 
     bounded-after : Bounded (precedenceOf (getD P at 0) (getD I at 0) (getD Q at 0)) (range P I Q (at + 1) to)
     bounded-after =
         let S = range P I Q from to in
         let w = subst (λ ss. widestSlot ss ≤ widestSlot S) after-range (widest-drop (suc (at - from)) S) in
-        omega (arith, root-level)
+        omega (arith, root-precedence)
 
     -- If it could not be right-associative, nor could the first operator of its precedence.
     first-not-right :
@@ -147,19 +147,19 @@ module _ (P I Q : List ℕ) (from to : ℕ) (ok : from ≤ to) where
         let at-first = root-not-right from to S (omega arith) at-root in
         let first-is = ap (λ k. firstSlot w from k S) (sym (range-size P I Q from to ok)) ∙ first-from-zero from S w in
         let from-zero = sym (right-from-zero from S (firstSlot w 0 (length S) S)) ∙ ap (λ k. rightAt from k S) (sym first-is) ∙ at-first in
-        subst₂ FirstNotRight (sym root-level) before-range (not-right-take w (at - from) S from-zero)
+        subst₂ FirstNotRight (sym root-precedence) before-range (not-right-take w (at - from) S from-zero)
 
     pub hint-before :
         (right : Bool) → right ≡ couldBeRightAt from at (getD P at 0) (getD I at 0) → (hint : ℕ) → hint ≡ leftHint right
-        → (level : ℕ) → level ≡ precedenceOf (getD P at 0) (getD I at 0) (getD Q at 0) → Hint hint level (range P I Q from at)
-    hint-before true r hint i level l = (λ k. absurd (omega arith), λ k. absurd (omega arith))
-    hint-before false r hint i level l =
+        → (wanted : ℕ) → wanted ≡ precedenceOf (getD P at 0) (getD I at 0) (getD Q at 0) → Hint hint wanted (range P I Q from at)
+    hint-before true r hint i wanted l = (λ k. absurd (omega arith), λ k. absurd (omega arith))
+    hint-before false r hint i wanted l =
         let S = range P I Q from at in
         (λ k. absurd (omega arith), λ k. subst⁻¹ (λ p. Bounded p S × FirstNotRight p S) l (bounded-before, first-not-right (sym r)))
 
     pub hint-after :
         (right : Bool) (hint : ℕ) → hint ≡ rightHint right
-        → (level : ℕ) → level ≡ precedenceOf (getD P at 0) (getD I at 0) (getD Q at 0)
-        → Hint hint level (range P I Q (at + 1) to)
-    hint-after true hint i level l = (λ k. subst⁻¹ (λ p. Bounded p (range P I Q (at + 1) to)) l bounded-after, λ k. absurd (omega arith))
-    hint-after false hint i level l = (λ k. absurd (omega arith), λ k. absurd (omega arith))
+        → (wanted : ℕ) → wanted ≡ precedenceOf (getD P at 0) (getD I at 0) (getD Q at 0)
+        → Hint hint wanted (range P I Q (at + 1) to)
+    hint-after true hint i wanted l = (λ k. subst⁻¹ (λ p. Bounded p (range P I Q (at + 1) to)) l bounded-after, λ k. absurd (omega arith))
+    hint-after false hint i wanted l = (λ k. absurd (omega arith), λ k. absurd (omega arith))

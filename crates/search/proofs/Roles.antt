@@ -8,7 +8,7 @@ use native.Mathlib.Omega.{arith}
 use lib.Dec.{eqb, ltb}
 use borrow.Author.Tests.{eq-eqb, ne-eqb, eqb-true, eqb-false, lt-ltb, le-ltb, le-leb, lt-leb}
 use Rattle.grammar.specs.Operator.{Role, isSome, hasRole}
-use Rattle.grammar.specs.SpanTree.{level, isLeft, isRight, rightRoot, admits, admitsSameLevel}
+use Rattle.grammar.specs.SpanTree.{rootPrecedence, isLeft, isRight, rightRoot, admits, admitsEqual}
 use Rattle.grammar.specs.Search.{precedence, firstRole}
 use Rattle.grammar.specs.Coded.{roleOf, rolesOf, associativityOf}
 use Rattle.search.specs.Slots.{
@@ -19,7 +19,7 @@ use Rattle.search.specs.Slots.{
   isOf,
   couldBeRightAt,
   admitsCode,
-  sideOf,
+  positionOf,
   joinedCode,
   noTree,
 }
@@ -37,11 +37,11 @@ unfolding roleOf coded
 role-some c h = rw (ne-eqb c 0 h, roleOf)
 
 -- The precedence of a role, and of none.
-pub role-level : (c : ℕ) → level (roleOf c) ≡ c / 4
-unfolding level roleOf
-role-level c = go (eqb c 0) refl
+pub role-precedence : (c : ℕ) → rootPrecedence (roleOf c) ≡ c / 4
+unfolding rootPrecedence roleOf
+role-precedence c = go (eqb c 0) refl
   where
-    go : (b : Bool) → eqb c 0 ≡ b → level (roleOf c) ≡ c / 4
+    go : (b : Bool) → eqb c 0 ≡ b → rootPrecedence (roleOf c) ≡ c / 4
     go true e = rw (eqb-true c 0 e)
     go false e = rw (e, roleOf)
 
@@ -88,16 +88,16 @@ operator-coded p i q = rw (some-role p, some-role i, some-role q)
 -- Its precedence is that of the first of its roles that is there: infix, prefix, postfix.
 module _ (p i q : ℕ) where
   pub precedence-infix : (i ≡ 0 → ⊥) → precedenceOf p i q ≡ i / 4
-  unfolding precedenceOf precedence rolesOf firstRole level coded
+  unfolding precedenceOf precedence rolesOf firstRole rootPrecedence coded
   precedence-infix h = rw (role-some i h)
 
   pub precedence-prefix : i ≡ 0 → (p ≡ 0 → ⊥) → precedenceOf p i q ≡ p / 4
-  unfolding precedenceOf precedence rolesOf firstRole level coded
+  unfolding precedenceOf precedence rolesOf firstRole rootPrecedence coded
   precedence-prefix e h = rw (e, role-none, role-some p h)
 
   pub precedence-postfix : i ≡ 0 → p ≡ 0 → precedenceOf p i q ≡ q / 4
   unfolding precedenceOf precedence rolesOf firstRole
-  precedence-postfix e f = rw (e, f, role-none) (role-level q)
+  precedence-postfix e f = rw (e, f, role-none) (role-precedence q)
 
 -- An operator of a precedence.
 module _ (l p i q : ℕ) where
@@ -120,28 +120,28 @@ module _ (from at p i : ℕ) where
   right-behind h = rw (lt-leb at from h, couldBeRightAt) (right-root i)
 
 -- Which operands are admitted: of a lower precedence, none of a higher one, and of the same one by the associativities.
-abbrev pub sameLevel : Bool → ℕ → ℕ → Bool
-sameLevel true r o = eqb (r % 4) 2
-sameLevel false r o = eqb (r % 4) 1 && not (eqb (o % 4) 2)
+abbrev pub equalAdmitted : Bool → ℕ → ℕ → Bool
+equalAdmitted true r o = eqb (r % 4) 2
+equalAdmitted false r o = eqb (r % 4) 1 && not (eqb (o % 4) 2)
 
 module _ (side : Bool) (r o : ℕ) where
-  same-level : admitsSameLevel (sideOf side) (coded r) (roleOf o) ≡ sameLevel side r o
-  unfolding admitsSameLevel sideOf coded
-  same-level = go side
+  equal-admitted : admitsEqual (positionOf side) (coded r) (roleOf o) ≡ equalAdmitted side r o
+  unfolding admitsEqual positionOf coded
+  equal-admitted = go side
     where
-      go : (b : Bool) → admitsSameLevel (sideOf b) (coded r) (roleOf o) ≡ sameLevel b r o
+      go : (b : Bool) → admitsEqual (positionOf b) (coded r) (roleOf o) ≡ equalAdmitted b r o
       go true = is-right (r % 4)
       go false = rw (is-left, right-root)
 
-  admits-some : (r ≡ 0 → ⊥) → admitsCode side r o ≡ (ltb (o / 4) (r / 4) || (eqb (o / 4) (r / 4) && sameLevel side r o))
+  admits-some : (r ≡ 0 → ⊥) → admitsCode side r o ≡ (ltb (o / 4) (r / 4) || (eqb (o / 4) (r / 4) && equalAdmitted side r o))
   unfolding admitsCode admits coded
-  admits-some h = rw (role-some r h, admitsCode, role-level o) (ap (λ b. ltb (o / 4) (r / 4) || (eqb (o / 4) (r / 4) && b)) same-level)
+  admits-some h = rw (role-some r h, admitsCode, role-precedence o) (ap (λ b. ltb (o / 4) (r / 4) || (eqb (o / 4) (r / 4) && b)) equal-admitted)
 
   -- No role admits nothing.
-  none-same : r ≡ 0 → sameLevel side r o ≡ false
+  none-same : r ≡ 0 → equalAdmitted side r o ≡ false
   none-same e = rw e (go side)
     where
-      go : (b : Bool) → sameLevel b 0 o ≡ false
+      go : (b : Bool) → equalAdmitted b 0 o ≡ false
       go true = refl
       go false = refl
 
@@ -160,10 +160,10 @@ module _ (side : Bool) (r o : ℕ) where
       go false e =
           admits-some (eqb-false r 0 e) ∙ rw (le-ltb (o / 4) (r / 4) (omega arith), ne-eqb (o / 4) (r / 4) (omega arith))
 
-  pub admits-same : r / 4 ≤ o / 4 → o / 4 ≤ r / 4 → admitsCode side r o ≡ sameLevel side r o
+  pub admits-same : r / 4 ≤ o / 4 → o / 4 ≤ r / 4 → admitsCode side r o ≡ equalAdmitted side r o
   admits-same h g = go (eqb r 0) refl
     where
-      go : (b : Bool) → eqb r 0 ≡ b → admitsCode side r o ≡ sameLevel side r o
+      go : (b : Bool) → eqb r 0 ≡ b → admitsCode side r o ≡ equalAdmitted side r o
       go true e = admits-none (eqb-true r 0 e) ∙ sym (none-same (eqb-true r 0 e))
       go false e = admits-some (eqb-false r 0 e) ∙ rw (le-ltb (o / 4) (r / 4) h, eq-eqb (o / 4) (r / 4) (omega arith))
 

@@ -9,7 +9,7 @@ use lib.ListN.{length, take, drop, getD}
 use Rattle.grammar.specs.Operator.{Prefix, Infix, Postfix, Roles, Table, role, hasRole}
 use Rattle.grammar.specs.Coded.{roleCode, roleOf, rolesOf}
 use Rattle.grammar.specs.Span.{Item}
-use Rattle.grammar.specs.SpanTree.{Side, onLeft, onRight, admits, rightRoot}
+use Rattle.grammar.specs.SpanTree.{Position, onLeft, onRight, admits, rightRoot}
 use Rattle.grammar.specs.Search.{precedence, operatorAt}
 
 -- The numbers of an item's roles: prefix, infix, postfix.
@@ -78,12 +78,12 @@ unfoldable pub rootSlot : ℕ → ℕ → List Slot → ℕ
 rootSlot from to ss = rootAt (widestSlot ss) from to ss (firstSlot (widestSlot ss) from to ss)
 
 -- Whether a side of a role admits an operand, by their numbers.
-unfoldable pub sideOf : Bool → Side
-sideOf true = onRight
-sideOf false = onLeft
+unfoldable pub positionOf : Bool → Position
+positionOf true = onRight
+positionOf false = onLeft
 
 unfoldable pub admitsCode : Bool → ℕ → ℕ → Bool
-admitsCode right r o = elim (roleOf r) [ none ↦ false | some q ↦ admits (sideOf right) q (roleOf o) ]
+admitsCode right r o = elim (roleOf r) [ none ↦ false | some q ↦ admits (positionOf right) q (roleOf o) ]
 
 -- No tree.
 abbrev pub noTree : ℕ

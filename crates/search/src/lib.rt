@@ -53,11 +53,11 @@ pub fn precedence(prefix: u16, infix: u16, postfix: u16) -> u16
 }
 
 // Whether an item is an operator of a precedence.
-pub fn is_of(level: u16, prefix: u16, infix: u16, postfix: u16) -> bool
-    ensures { λ r. ⌜ r ≡ isOf level (slot prefix «infix» postfix) ⌝ }
+pub fn is_of(wanted: u16, prefix: u16, infix: u16, postfix: u16) -> bool
+    ensures { λ r. ⌜ r ≡ isOf wanted (slot prefix «infix» postfix) ⌝ }
 {
     if is_operator(prefix, infix, postfix) {
-        return precedence(prefix, infix, postfix) == level;
+        return precedence(prefix, infix, postfix) == wanted;
     }
     false
 }
@@ -90,19 +90,19 @@ pub fn first_of<'a>(
     prefixes: &'a [u16; 1024],
     infixes: &'a [u16; 1024],
     postfixes: &'a [u16; 1024],
-    level: u16,
+    wanted: u16,
     from: usize,
     to: usize,
 ) -> usize
     requires { ⌜ InRange from to ⌝ }
-    ensures { λ r. ⌜ r ≡ firstSlot level from to (slotsIn (now (prefixes .entry)) (now (infixes .entry)) (now (postfixes .entry)) from (to - from)) ⌝ }
+    ensures { λ r. ⌜ r ≡ firstSlot wanted from to (slotsIn (now (prefixes .entry)) (now (infixes .entry)) (now (postfixes .entry)) from (to - from)) ⌝ }
 {
     let mut j = from;
     let found = loop {
         if to <= j {
             break to;
         }
-        if is_of(level, prefixes[j], infixes[j], postfixes[j]) {
+        if is_of(wanted, prefixes[j], infixes[j], postfixes[j]) {
             break j;
         }
         j += 1;
@@ -115,12 +115,12 @@ pub fn last_of<'a>(
     prefixes: &'a [u16; 1024],
     infixes: &'a [u16; 1024],
     postfixes: &'a [u16; 1024],
-    level: u16,
+    wanted: u16,
     from: usize,
     to: usize,
 ) -> usize
     requires { ⌜ InRange from to ⌝ }
-    ensures { λ r. ⌜ r ≡ lastSlot level from to (slotsIn (now (prefixes .entry)) (now (infixes .entry)) (now (postfixes .entry)) from (to - from)) ⌝ }
+    ensures { λ r. ⌜ r ≡ lastSlot wanted from to (slotsIn (now (prefixes .entry)) (now (infixes .entry)) (now (postfixes .entry)) from (to - from)) ⌝ }
 {
     let mut j = to;
     let found = loop {
@@ -128,7 +128,7 @@ pub fn last_of<'a>(
             break to;
         }
         let k = j - 1;
-        if is_of(level, prefixes[k], infixes[k], postfixes[k]) {
+        if is_of(wanted, prefixes[k], infixes[k], postfixes[k]) {
             break k;
         }
         j = k;
@@ -176,15 +176,15 @@ pub fn root<'a>(
             return last_of(prefixes, infixes, postfixes, bound, from, to);
         }
     }
-    let level = widest(prefixes, infixes, postfixes, from, to);
-    let first = first_of(prefixes, infixes, postfixes, level, from, to);
+    let wide = widest(prefixes, infixes, postfixes, from, to);
+    let first = first_of(prefixes, infixes, postfixes, wide, from, to);
     if to <= first {
         return to;
     }
     if could_be_right(from, first, prefixes[first], infixes[first]) {
         return first;
     }
-    last_of(prefixes, infixes, postfixes, level, from, to)
+    last_of(prefixes, infixes, postfixes, wide, from, to)
 }
 
 // Whether an operand whose root has the number `operand` (0: it has no operator) is admitted on a side (true: on the right) of an
@@ -192,12 +192,12 @@ pub fn root<'a>(
 pub fn admits(right: bool, role: u16, operand: u32) -> bool
     ensures { λ r. ⌜ r ≡ admitsCode right role operand ⌝ }
 {
-    let level = (role / 4) as u32;
+    let outer = (role / 4) as u32;
     let inner = operand / 4;
-    if inner < level {
+    if inner < outer {
         return true;
     }
-    if level < inner {
+    if outer < inner {
         return false;
     }
     if right {
@@ -283,7 +283,7 @@ pub fn part<'a>(
     let prefix = prefixes[at];
     let infix = infixes[at];
     let postfix = postfixes[at];
-    let level = precedence(prefix, infix, postfix);
+    let own = precedence(prefix, infix, postfix);
     let right = could_be_right(from, at, prefix, infix);
     let l = part(
         prefixes,
@@ -292,7 +292,7 @@ pub fn part<'a>(
         from,
         at,
         left_hint(right),
-        level,
+        own,
     );
     if l == NO_TREE {
         return NO_TREE;
@@ -305,7 +305,7 @@ pub fn part<'a>(
         next,
         to,
         right_hint(right),
-        level,
+        own,
     );
     if r == NO_TREE {
         return NO_TREE;

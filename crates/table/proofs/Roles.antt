@@ -5,7 +5,7 @@ use mathlib.Core.Option.{Option, none, some}
 use Prim.Native.Nat.{ℕ, _/_, _%_}
 use lib.Dec.{eqb}
 use borrow.Author.Tests.{eq-eqb, ne-eqb, eqb-true, not-true, not-false}
-use Rattle.grammar.specs.Operator.{Prefix, Infix, Postfix, left, right, non, Role, sameAssociativity, oneLevelTest, absentRole, besideInfix, lawfulSides, lawful}
+use Rattle.grammar.specs.Operator.{Prefix, Infix, Postfix, left, right, non, Role, sameAssociativity, onePrecedenceTest, absentRole, besideInfix, lawfulAssociativities, lawful}
 use Rattle.grammar.specs.Coded.{fixityOf, associativityOf, roleOf, rolesOf}
 
 -- A test that was made, and negated.
@@ -92,30 +92,30 @@ is-absent c = go (eqb c 0) refl
     go false e = rw (e, roleOf)
 
 -- Where there are not two roles, there are no two precedences.
-pub one-level-first : (r : Option Role) → oneLevelTest none r ≡ true
-unfolding oneLevelTest
-one-level-first none = refl
-one-level-first (some r) = refl
+pub one-precedence-first : (r : Option Role) → onePrecedenceTest none r ≡ true
+unfolding onePrecedenceTest
+one-precedence-first none = refl
+one-precedence-first (some r) = refl
 
-pub one-level-second : (r : Option Role) → oneLevelTest r none ≡ true
-unfolding oneLevelTest
-one-level-second none = refl
-one-level-second (some r) = refl
+pub one-precedence-second : (r : Option Role) → onePrecedenceTest r none ≡ true
+unfolding onePrecedenceTest
+one-precedence-second none = refl
+one-precedence-second (some r) = refl
 
 module _ (p i q : ℕ) where
   -- Roles of one precedence are lawful by their associativities ..
-  pub one-levels :
-      oneLevelTest (roleOf p) (roleOf i) ≡ true → oneLevelTest (roleOf i) (roleOf q) ≡ true → oneLevelTest (roleOf p) (roleOf q) ≡ true
-      → lawful (rolesOf p i q) ≡ lawfulSides (roleOf p) (roleOf i) (roleOf q)
+  pub one-precedences :
+      onePrecedenceTest (roleOf p) (roleOf i) ≡ true → onePrecedenceTest (roleOf i) (roleOf q) ≡ true → onePrecedenceTest (roleOf p) (roleOf q) ≡ true
+      → lawful (rolesOf p i q) ≡ lawfulAssociativities (roleOf p) (roleOf i) (roleOf q)
   unfolding lawful rolesOf
-  one-levels d e f = rw (d, e, f)
+  one-precedences d e f = rw (d, e, f)
 
   -- .. which are free where there is no infix role.
-  pub no-infix : i ≡ 0 → lawfulSides (roleOf p) (roleOf i) (roleOf q) ≡ true
-  unfolding lawfulSides
+  pub no-infix : i ≡ 0 → lawfulAssociativities (roleOf p) (roleOf i) (roleOf q) ≡ true
+  unfolding lawfulAssociativities
   no-infix e = rw (no-role i e)
 
   pub beside-infix :
-      (i ≡ 0 → ⊥) → lawfulSides (roleOf p) (roleOf i) (roleOf q) ≡ besideInfix (associativityOf (i % 4)) (roleOf p) (roleOf q)
-  unfolding lawfulSides
+      (i ≡ 0 → ⊥) → lawfulAssociativities (roleOf p) (roleOf i) (roleOf q) ≡ besideInfix (associativityOf (i % 4)) (roleOf p) (roleOf q)
+  unfolding lawfulAssociativities
   beside-infix h = rw (a-role i h)

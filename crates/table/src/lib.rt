@@ -3,7 +3,7 @@ use scan::tokens;
 ghost use mathlib.Core.Path.{_≡_};
 ghost use Prim.Native.Nat.{_≤_, _<_};
 ghost use Rattle.grammar.specs.Bytes.{same};
-ghost use Rattle.grammar.specs.Operator.{oneLevelTest, only, besideInfix, lawful};
+ghost use Rattle.grammar.specs.Operator.{onePrecedenceTest, only, besideInfix, lawful};
 ghost use Rattle.grammar.specs.Coded.{fixityOf, associativityOf, roleOf, rolesOf};
 ghost use Rattle.grammar.specs.Answer.{longestText};
 ghost use Rattle.table.specs.Entries.{
@@ -215,8 +215,8 @@ impl Table {
 }
 
 // Whether two roles, where there are two, have one precedence.
-fn one_level(a: u16, b: u16) -> bool
-    ensures { λ r. ⌜ r ≡ oneLevelTest (roleOf a) (roleOf b) ⌝ }
+fn one_precedence(a: u16, b: u16) -> bool
+    ensures { λ r. ⌜ r ≡ onePrecedenceTest (roleOf a) (roleOf b) ⌝ }
 {
     if a == 0 {
         return true;
@@ -273,13 +273,13 @@ fn stands_beside(associativity: u16, prefix: u16, postfix: u16) -> bool
 pub fn is_lawful(prefix: u16, infix: u16, postfix: u16) -> bool
     ensures { λ r. ⌜ r ≡ lawful (rolesOf prefix «infix» postfix) ⌝ }
 {
-    if !one_level(prefix, infix) {
+    if !one_precedence(prefix, infix) {
         return false;
     }
-    if !one_level(infix, postfix) {
+    if !one_precedence(infix, postfix) {
         return false;
     }
-    if !one_level(prefix, postfix) {
+    if !one_precedence(prefix, postfix) {
         return false;
     }
     if infix == 0 {

@@ -179,9 +179,9 @@ module _ {A : Arrays} {M P F Q : List ℕ} {from to free hint bound : ℕ} {N : 
 
     -- The left operand.
     pub left-asks : (right : Bool) → right ≡ couldBeRightAt from at (getD P at 0) (getD F at 0) → (h : ℕ) → h ≡ leftHint right
-        → (level : ℕ) → level ≡ precedenceOf (getD P at 0) (getD F at 0) (getD Q at 0)
-        → Buildable A M P F Q from at free h level N base
-    left-asks right r h k level v =
+        → (own : ℕ) → own ≡ precedenceOf (getD P at 0) (getD F at 0) (getD Q at 0)
+        → Buildable A M P F Q from at free h own N base
+    left-asks right r h k own v =
         let g = begins in
         let u = b .inUse in
         let c = covers in
@@ -197,7 +197,7 @@ module _ {A : Arrays} {M P F Q : List ℕ} {from to free hint bound : ℕ} {N : 
           roles =
               sym (range-take P F Q from (to - from) (at - from) (omega arith))
               ∙ ap (take (at - from)) (b .roles) ∙ map-take (slotOfToken A) (at - from) (entries M from to) ∙ ap (map (slotOfToken A)) left-entries;
-          hinted = hint-before P F Q from to (b .ordered) at e l right r h k level v;
+          hinted = hint-before P F Q from to (b .ordered) at e l right r h k own v;
           items = left-items;
           scratch = omega arith;
           room = omega (arith, words-length, b .room);
@@ -215,9 +215,9 @@ module _ {A : Arrays} {M P F Q : List ℕ} {from to free hint bound : ℕ} {N : 
       left-few = omega (arith, part-bound A base left-items)
 
       pub right-asks : (right : Bool) (h : ℕ) → h ≡ rightHint right
-          → (level : ℕ) → level ≡ precedenceOf (getD P at 0) (getD F at 0) (getD Q at 0)
-          → Buildable A M P F Q (at + 1) to free h level (drop (n * 5) N) (base + n)
-      right-asks right h k level v =
+          → (own : ℕ) → own ≡ precedenceOf (getD P at 0) (getD F at 0) (getD Q at 0)
+          → Buildable A M P F Q (at + 1) to free h own (drop (n * 5) N) (base + n)
+      right-asks right h k own v =
           let g = begins in
           let c = covers in
           let m = lengths in
@@ -234,7 +234,7 @@ module _ {A : Arrays} {M P F Q : List ℕ} {from to free hint bound : ℕ} {N : 
             roles =
                 sym (range-drop P F Q from (to - from) (suc (at - from)) (omega arith) ∙ ap₂ (slotsIn P F Q) p q)
                 ∙ ap (drop (suc (at - from))) (b .roles) ∙ map-drop (slotOfToken A) (suc (at - from)) (entries M from to) ∙ ap (map (slotOfToken A)) right-entries;
-            hinted = hint-after P F Q from to (b .ordered) at e l right h k level v;
+            hinted = hint-after P F Q from to (b .ordered) at e l right h k own v;
             items = right-items;
             scratch = omega arith;
             room = omega (arith, right-length, b .room, length-drop (n * 5) N);
@@ -311,12 +311,12 @@ module _ {A : Arrays} {M P F Q : List ℕ} {from to free hint bound : ℕ} {N : 
       next-falls = rw same-entries right-falls
 
       pub next-asks : (right : Bool) (h : ℕ) → h ≡ rightHint right
-          → (level : ℕ) → level ≡ precedenceOf (getD P at 0) (getD F at 0) (getD Q at 0)
-          → Buildable A M₁ P₁ F₁ Q₁ (at + 1) to free h level (midOf (n * 5) (length N₁ - n * 5) N₁) (base + n)
-      next-asks right h k level v =
+          → (own : ℕ) → own ≡ precedenceOf (getD P at 0) (getD F at 0) (getD Q at 0)
+          → Buildable A M₁ P₁ F₁ Q₁ (at + 1) to free h own (midOf (n * 5) (length N₁ - n * 5) N₁) (base + n)
+      next-asks right h k own v =
           buildable-kept (w .numbers) (w .prefixes) (w .infixes) (w .postfixes) (w .whole)
           (ap (λ v. midOf (n * 5) (length v - n * 5) v) (w .words) ∙ lent-part (partWords A (entries M from at) base) N (n * 5) (w .answer) left-small)
-          (right-asks n (w .answer) right h k level v)
+          (right-asks n (w .answer) right h k own v)
 
       module _ {ys M₂ P₂ F₂ Q₂ : List ℕ} {r : ℕ}
           (v : Written (partWords A (entries M₁ (at + 1) to) (base + n)) (midOf (n * 5) (length N₁ - n * 5) N₁) ys r free M₁ P₁ F₁ Q₁ M₂ P₂ F₂ Q₂) where

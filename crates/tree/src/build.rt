@@ -23,7 +23,7 @@ fn number(a: &[u16; 1024], j: usize) -> usize
 }
 
 // The precedence of the operator at number `at` of the item arrays.
-fn level_at(p: &[u16; 1024], f: &[u16; 1024], q: &[u16; 1024], at: usize) -> u16
+fn precedence_at(p: &[u16; 1024], f: &[u16; 1024], q: &[u16; 1024], at: usize) -> u16
     requires { ⌜ at < 1024 ⌝ }
     ensures { λ r. ⌜ r ≡ precedenceOf (getD (now (p .entry)) at 0) (getD (now (f .entry)) at 0) (getD (now (q .entry)) at 0) ⌝ }
 {
@@ -154,7 +154,7 @@ pub fn build(
         );
     }
     let i = number(items, at);
-    let level = level_at(p, f, q, at);
+    let own = precedence_at(p, f, q, at);
     let right = right_at(p, f, from, at);
     let l = build(
         kinds,
@@ -172,7 +172,7 @@ pub fn build(
         at,
         free,
         search::left_hint(right),
-        level,
+        own,
         nodes,
         base,
     );
@@ -194,7 +194,7 @@ pub fn build(
         to,
         free,
         search::right_hint(right),
-        level,
+        own,
         &mut nodes[after..],
         base + l,
     );

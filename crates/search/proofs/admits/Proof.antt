@@ -6,8 +6,8 @@ use Rattle.search.proofs.Roles.{admits-lower, admits-higher, admits-sam
 use Rattle.search.proofs.admits.Statement.{statement}
 use Rattle.search.proofs.admits.Tie as tie
 
-cast-level : tie.Need-cast-level
-cast-level c = search needs
+cast-outer : tie.Need-cast-outer
+cast-outer c = search needs
 
 returns : tie.Need-returns
 returns c = sym (admits-lower _ _ _ (c .if1 .taken))
@@ -27,4 +27,4 @@ returns-5 c =
     rw (admits-same _ _ _ (c .before .before .before .if1 .left) (c .before .before .if2 .left), c .before .if3 .left, ne-eqb _ _ (c .if4 .left))
 
 pub admits-spec : {M : Type 1} → statement M
-admits-spec = tie.close (tie.spec cast-level returns returns-2 returns-3 returns-4 returns-5)
+admits-spec = tie.close (tie.spec cast-outer returns returns-2 returns-3 returns-4 returns-5)

@@ -9,11 +9,11 @@ use Rattle.search.proofs.first_of.Statement.{statement}
 use Rattle.search.proofs.first_of.Tie as tie
 
 abbrev Inv-loop : tie.InvT-loop
-Inv-loop P I Q level from to j₀ j =
-    (from ≤ j) × (j ≤ to) × (to ≤ 1024) × (firstSlot level from to (slotsIn P I Q from (to - from)) ≡ firstSlot level j to (slotsIn P I Q j (to - j)))
+Inv-loop P I Q wanted from to j₀ j =
+    (from ≤ j) × (j ≤ to) × (to ≤ 1024) × (firstSlot wanted from to (slotsIn P I Q from (to - from)) ≡ firstSlot wanted j to (slotsIn P I Q j (to - j)))
 
 abbrev μ-loop : tie.MeasureT-loop
-μ-loop P I Q level from to j₀ j = to - j
+μ-loop P I Q wanted from to j₀ j = to - j
 
 loop-holds : tie.Need-loop-holds Inv-loop μ-loop
 loop-holds c = (omega arith, omega arith, omega arith, refl)

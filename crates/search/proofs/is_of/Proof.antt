@@ -14,7 +14,7 @@ precedence-requires c κs = search needs
 
 returns : tie.Need-returns
 returns c =
-    ap (λ p. eqb p (c .before .before .before .args .level)) (c .precedence .ensures)
+    ap (λ p. eqb p (c .before .before .before .args .wanted)) (c .precedence .ensures)
     ∙ sym (of-operator _ _ _ _ (sym (c .before .before .is-operator .ensures) ∙ c .before .if1 .taken))
 
 returns-2 : tie.Need-returns-2

@@ -9,11 +9,11 @@ use Rattle.search.proofs.last_of.Statement.{statement}
 use Rattle.search.proofs.last_of.Tie as tie
 
 abbrev Inv-loop : tie.InvT-loop
-Inv-loop P I Q level from to j₀ j =
-    (from ≤ j) × (j ≤ to) × (to ≤ 1024) × (lastSlot level from to (slotsIn P I Q from (to - from)) ≡ lastSlot level from to (slotsIn P I Q from (j - from)))
+Inv-loop P I Q wanted from to j₀ j =
+    (from ≤ j) × (j ≤ to) × (to ≤ 1024) × (lastSlot wanted from to (slotsIn P I Q from (to - from)) ≡ lastSlot wanted from to (slotsIn P I Q from (j - from)))
 
 abbrev μ-loop : tie.MeasureT-loop
-μ-loop P I Q level from to j₀ j = j - from
+μ-loop P I Q wanted from to j₀ j = j - from
 
 loop-holds : tie.Need-loop-holds Inv-loop μ-loop
 loop-holds c = (omega arith, omega arith, omega arith, refl)

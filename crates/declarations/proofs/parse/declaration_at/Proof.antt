@@ -28,8 +28,8 @@ use Rattle.declarations.proofs.Parts.{
   word-fixity,
   side-other,
   side-named,
-  level-other,
-  level-given,
+  digits-other,
+  digits-given,
   role-coded,
   operator-coded,
 }
@@ -96,7 +96,7 @@ associated :
     → Goes (start (first (second (c .before)))) (precedencePart (fixityOf (fixity (second (c .before)))) (associativityOf (associativity c))) 2
 associated c = sided (c .before) ∙ side-named _ _ _ (associativity c) (c .before .associativity-named .ensures) (c .if7 .left)
 
-leveled :
+with-digits :
     (c : tie.After-precedence)
     → Goes
     (start (first (second (third c .before))))
@@ -107,7 +107,7 @@ leveled :
     (number (c .before .characters3 .result .now) ∷ ts))
     3
 unfolding tokenOf
-leveled c =
+with-digits c =
     let h = c .before in
     let e = h .before .before .before in
     let f = second (third c .before) in
@@ -240,7 +240,7 @@ returns-10 : tie.Need-returns-10
 unfolding codedParsed
 returns-10 c =
     let p = c .before in
-    sym (ap codedParsed (leveled p ∙ level-other _ _ _ _ (p .precedence .result) (p .precedence .ensures) (c .if10 .taken)))
+    sym (ap codedParsed (with-digits p ∙ digits-other _ _ _ _ (p .precedence .result) (p .precedence .ensures) (c .if10 .taken)))
 
 add-operator-part-2 : tie.Need-add-operator-part-2
 add-operator-part-2 c = search needs
@@ -273,7 +273,7 @@ returns-11 c =
     let f = second (a .before) in
     c .operator-part2 .ensures
     ∙ sym
-    (ap codedParsed (leveled p ∙ level-given _ _ _ _ (p .precedence .result) (p .precedence .ensures) (e .if10 .left))
+    (ap codedParsed (with-digits p ∙ digits-given _ _ _ _ (p .precedence .result) (p .precedence .ensures) (e .if10 .left))
     ∙ operator-coded _ _ _ _ _ 3 _ _
     (role-coded
     (first f .characters .result .now)

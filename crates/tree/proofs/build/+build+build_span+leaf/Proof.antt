@@ -52,7 +52,7 @@ use Rattle.layout.proofs.fill.fill.Reads as fill-reads
 use Rattle.search.proofs.left_hint.Reads as left-hint-reads
 use Rattle.search.proofs.right_hint.Reads as right-hint-reads
 use Rattle.search.proofs.root.Reads as root-reads
-use Rattle.tree.proofs.build.level_at.Reads as level-at-reads
+use Rattle.tree.proofs.build.precedence_at.Reads as precedence-at-reads
 use Rattle.tree.proofs.build.number.Reads as number-reads
 use Rattle.tree.proofs.build.right_at.Reads as right-at-reads
 use Rattle.tree.proofs.node.block.Reads as block-reads
@@ -102,8 +102,8 @@ build-calls t = (
   number-reads.Learnt,
   leaf-below t,
   leaf.Post,
-  level-at-reads.Asked,
-  level-at-reads.Learnt,
+  precedence-at-reads.Asked,
+  precedence-at-reads.Learnt,
   right-at-reads.Asked,
   right-at-reads.Learnt,
   left-hint-reads.Asked,
@@ -166,8 +166,8 @@ module _ (t : ℕ) where
   build-number-requires-2 : build-lts.Need-number-requires-2 (build-calls t) (build-at t) build.Post
   build-number-requires-2 c κs = omega arith
 
-  build-level-at-requires : build-lts.Need-level-at-requires (build-calls t) (build-at t) build.Post
-  build-level-at-requires c κs = omega arith
+  build-precedence-at-requires : build-lts.Need-precedence-at-requires (build-calls t) (build-at t) build.Post
+  build-precedence-at-requires c κs = omega arith
 
   build-right-at-requires : build-lts.Need-right-at-requires (build-calls t) (build-at t) build.Post
   build-right-at-requires c κs = omega arith
@@ -181,7 +181,7 @@ module _ (t : ℕ) where
       let r = c .before .before .before .before .before .before .before .before .before .before .before .before .before .before .before .before .root .ensures in
       let l = c .before .before .before .before .before .before .before .before .before .before .before .before .before .before .before .if2 .left in (
         omega (arith, s .pre .0, left-falls (s .pre .1) _ r l),
-        left-asks (s .pre .1) _ r l _ (c .before .before .before .before .before .before .right-at .ensures) _ (c .before .left-hint .ensures) _ (c .before .before .before .before .before .before .before .before .before .level-at .ensures),
+        left-asks (s .pre .1) _ r l _ (c .before .before .before .before .before .before .right-at .ensures) _ (c .before .left-hint .ensures) _ (c .before .before .before .before .before .before .before .before .before .precedence-at .ensures),
       )
 
   build-add-next : build-lts.Need-add-next (build-calls t) (build-at t) build.Post
@@ -215,7 +215,7 @@ module _ (t : ℕ) where
       let l = c .before .before .before .before .before .before .before .before .before .before .before .before .before .before .before .before .before .before .before .before .before .before .before .before .if2 .left in
       let w = c .before .before .before .before .before .before .before .before .build .ensures in (
         omega (arith, s .pre .0, next-falls (s .pre .1) _ r l _ w),
-        next-asks (s .pre .1) _ r l _ w (c .before .before .before .before .before .before .before .before .before .before .before .before .before .before .before .right-at .result) _ (c .before .right-hint .ensures) _ (c .before .before .before .before .before .before .before .before .before .before .before .before .before .before .before .before .before .before .level-at .ensures),
+        next-asks (s .pre .1) _ r l _ w (c .before .before .before .before .before .before .before .before .before .before .before .before .before .before .before .right-at .result) _ (c .before .right-hint .ensures) _ (c .before .before .before .before .before .before .before .before .before .before .before .before .before .before .before .before .before .before .precedence-at .ensures),
       )
 
   build-operator-requires : build-lts.Need-operator-requires (build-calls t) (build-at t) build.Post
@@ -333,7 +333,7 @@ pub +build+build-span+leaf-spec : {M : Type 1} → statement M
     (build-same-length t)
     (build-returns-2 t)
     (build-number-requires-2 t)
-    (build-level-at-requires t)
+    (build-precedence-at-requires t)
     (build-right-at-requires t)
     (build-left-hint-requires t)
     (build-build-requires t)
