@@ -2,7 +2,7 @@
 use mathlib.Core.Path.{_≡_}
 use mathlib.Core.Bool.{Bool, true, false}
 use mathlib.Core.List.{List, [], _∷_, map}
-use Prim.Native.Nat.{ℕ, zero, suc}
+use Prim.Native.Nat.{ℕ, zero, suc, _≤_}
 use lib.Dec.{ltb, eqb}
 use lib.ListN.{length, set, getD}
 use Rattle.grammar.specs.Token.{Token}
@@ -102,6 +102,10 @@ closers ps i (t ∷ ts) C =
 unfoldable pub codedNesting : Outcome (Unit {0}) → Nested
 codedNesting (refused n p) = Refused n p
 codedNesting (passed u) = Passed
+
+-- As many tokens as the arrays hold.
+abbrev pub InArrays : ℕ → Type 0
+InArrays count = count ≤ 1024
 
 -- What the check answers and writes.
 pub record Pairing (K : List ℕ) (count : ℕ) (C C′ : List ℕ) (r : Nested) : Type 0 where

@@ -1,8 +1,7 @@
 // Brackets and blocks: document 01's refusals 6 and 7, and which token closes which.
 ghost use mathlib.Core.Path.{_≡_};
 ghost use mathlib.Core.List.{[]};
-ghost use Prim.Native.Nat.{_≤_};
-ghost use Rattle.nesting.specs.Pairs.{moveCode, Pairing};
+ghost use Rattle.nesting.specs.Pairs.{moveCode, InArrays, Pairing};
 
 // What a token of a kind does where a pair of that sort is open (0 none, 1 bracket pair, 2 block before its `in`, 3 after it):
 // 0 it stays, 1 it is broken, 2 it opens a bracket pair, 3 it opens a block, 4 it is the block's `in`, 5 it closes the pair.
@@ -61,7 +60,7 @@ pub enum Nested {
 // its `end`. The pairs that are open stand in `sorts` and `openers` from 1 to `depth`: of what sort, and opened by which token. The
 // sort of a pair is the number of the move that opens it, less 1.
 pub fn pair_up(kinds: &[u8; 1024], count: usize, closes: &mut [u16; 1024]) -> Nested
-    requires { ⌜ count ≤ 1024 ⌝ }
+    requires { ⌜ InArrays count ⌝ }
     ensures { λ r. ⌜ Pairing (now (kinds .entry)) count (now (closes .entry)) (now (closes .exit)) r ⌝ }
 {
     let mut sorts = [0u8; 33];

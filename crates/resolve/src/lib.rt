@@ -5,8 +5,9 @@ use scan::tokens;
 use table::Found;
 use table::Table;
 ghost use mathlib.Core.Path.{_≡_};
-ghost use Prim.Native.Nat.{_≤_, _<_};
+ghost use Prim.Native.Nat.{_<_};
 ghost use lib.ListN.{set};
+ghost use Rattle.table.specs.Entries.{InTable};
 ghost use Rattle.resolve.specs.Resolved.{codedClass, tableBy, Resolvable, Resolved};
 
 // A classified token: a name with offset and length, a number, an operator with its number in the table, a bracket pair or a block
@@ -30,7 +31,7 @@ pub fn classify<'a>(
     lengths: &'a [u8; 64],
     count: usize,
 ) -> Class
-    requires { ⌜ count ≤ 64 ⌝ }
+    requires { ⌜ InTable count ⌝ }
     ensures { λ r. ⌜ r ≡ codedClass (now (text .entry)) kind start size close (now (names .entry)) (now (lengths .entry)) count ⌝ }
 {
     if kind == 1 {

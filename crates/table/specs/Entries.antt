@@ -42,6 +42,10 @@ operatorsFrom text S Z P I Q i (suc n) =
 unfoldable pub tableOf : Bytes → Table → G.Table
 tableOf text t = operatorsFrom text (t .starts) (t .sizes) (t .prefixes) (t .infixes) (t .postfixes) 0 (t .count)
 
+-- As many operators as a table holds.
+abbrev pub InTable : ℕ → Type 0
+InTable count = count ≤ 64
+
 -- A table with at most 64 entries.
 abbrev pub Sized : Table → Type 0
 Sized t = t .count ≤ 64

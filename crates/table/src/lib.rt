@@ -9,6 +9,7 @@ ghost use Rattle.grammar.specs.Answer.{longestText};
 ghost use Rattle.table.specs.Entries.{
   nameIn,
   codedFind,
+  InTable,
   Sized,
   Starting,
   AllLawful,
@@ -58,7 +59,7 @@ pub fn find<'a>(
     count: usize,
     name: &[u8],
 ) -> Found
-    requires { ⌜ count ≤ 64 ⌝ }
+    requires { ⌜ InTable count ⌝ }
     ensures { λ r. ⌜ r ≡ codedFind (now (text .entry)) (now (starts .entry)) (now (sizes .entry)) (now (name .entry)) 0 count ⌝ }
 {
     let mut i: usize = 0;
@@ -295,7 +296,7 @@ pub fn all_lawful<'a>(
     postfixes: &'a [u16; 64],
     count: usize,
 ) -> bool
-    requires { ⌜ count ≤ 64 ⌝ }
+    requires { ⌜ InTable count ⌝ }
     ensures { λ r. ⌜ AllLawful (now (prefixes .entry)) (now (infixes .entry)) (now (postfixes .entry)) count r ⌝ }
 {
     let mut i: usize = 0;

@@ -1,12 +1,12 @@
 // The words of one node, written into a lent table.
 ghost use mathlib.Core.Path.{_≡_};
 ghost use mathlib.Core.List.{_∷_, []};
-ghost use Prim.Native.Nat.{pred, _+_, _-_, _*_, _≤_, _<_};
-ghost use lib.ListN.{length, getD};
+ghost use Prim.Native.Nat.{pred, _+_, _-_, _*_, _<_};
+ghost use lib.ListN.{getD};
 ghost use lib.Seq.{sets};
 ghost use Rattle.grammar.specs.Nodes.{nodeWords};
 ghost use Rattle.tree.specs.Built.{tokenNode, bracketNode, blockNode, operatorNode};
-ghost use Rattle.tree.specs.Building.{arrays};
+ghost use Rattle.tree.specs.Building.{arrays, NodeIn, FewNodes, TokenIn, BlockIn, TokenNumber};
 
 // An offset and a length as words.
 fn offset_word(x: u16) -> u32
@@ -23,7 +23,7 @@ fn length_word(x: u8) -> u32
 
 // Writes node number `at` of a lent table.
 pub fn put(nodes: &mut [u32], at: usize, kind: u32, first: u32, second: u32, offset: u32, size: u32)
-    requires { ⌜ at * 5 + 5 ≤ length (now nodes) ⌝ }
+    requires { ⌜ NodeIn at (now nodes) ⌝ }
     ensures { λ r. ⌜ now (nodes .exit) ≡ sets (now (nodes .entry)) (at * 5) (nodeWords kind first second offset size) ⌝ }
 {
     let w = at * 5;
@@ -36,7 +36,7 @@ pub fn put(nodes: &mut [u32], at: usize, kind: u32, first: u32, second: u32, off
 
 // The number of the node before number `n`, or 0.
 pub fn before(n: usize) -> u32
-    requires { ⌜ n ≤ 4096 ⌝ }
+    requires { ⌜ FewNodes n ⌝ }
     ensures { λ r. ⌜ r ≡ pred n ⌝ }
 {
     if n == 0 {
@@ -53,7 +53,7 @@ pub fn token(
     i: usize,
     nodes: &mut [u32],
 ) -> usize
-    requires { ⌜ (i < 1024) × (getD (now kinds) i 0 ≡ 3 → 2 ≤ getD (now sizes) i 0) × (5 ≤ length (now nodes)) ⌝ }
+    requires { ⌜ TokenIn (now kinds) (now sizes) i (now nodes) ⌝ }
     ensures { λ r. ⌜ (r ≡ 1)
         × (now (nodes .exit) ≡ sets (now (nodes .entry)) 0 (tokenNode (arrays (now (kinds .entry)) (now (starts .entry)) (now (sizes .entry)) [] [] [] []) i)) ⌝ }
 {
@@ -74,7 +74,7 @@ pub fn token(
 
 // Writes the node of a bracket pair behind the `n` nodes of what stands in it. The answer is how many nodes these are.
 pub fn bracket(base: usize, n: usize, nodes: &mut [u32]) -> usize
-    requires { ⌜ (base + n ≤ 4096) × (n * 5 + 5 ≤ length (now nodes)) ⌝ }
+    requires { ⌜ FewNodes (base + n) × NodeIn n (now nodes) ⌝ }
     ensures { λ r. ⌜ (r ≡ n + 1)
         × (now (nodes .exit) ≡ sets (now (nodes .entry)) (n * 5) (bracketNode (arrays [] [] [] [] [] [] []) (base + n))) ⌝ }
 {
@@ -91,8 +91,7 @@ pub fn block(
     n: usize,
     nodes: &mut [u32],
 ) -> usize
-    requires { ⌜ (i < 1024) × (c < 1024) × (getD (now starts) i 0 ≤ getD (now starts) c 0 + 2)
-        × (base + n ≤ 4096) × (n * 5 + 5 ≤ length (now nodes)) ⌝ }
+    requires { ⌜ BlockIn (now starts) i c base n (now nodes) ⌝ }
     ensures { λ r. ⌜ (r ≡ n + 1)
         × (now (nodes .exit) ≡ sets (now (nodes .entry)) (n * 5) (nodeWords 7 (pred (base + n)) 0 (getD (now (starts .entry)) i 0) (getD (now (starts .entry)) c 0 + 2 - getD (now (starts .entry)) i 0))) ⌝ }
 {
@@ -114,7 +113,7 @@ pub fn operator(
     r: usize,
     nodes: &mut [u32],
 ) -> usize
-    requires { ⌜ (i < 1024) × (base + l + r ≤ 4096) × ((l + r) * 5 + 5 ≤ length (now nodes)) ⌝ }
+    requires { ⌜ TokenNumber i × FewNodes (base + l + r) × NodeIn (l + r) (now nodes) ⌝ }
     ensures { λ n. ⌜ (n ≡ l + r + 1)
         × (now (nodes .exit) ≡ sets (now (nodes .entry)) ((l + r) * 5) (operatorNode (arrays [] (now (starts .entry)) (now (sizes .entry)) [] [] [] []) i left right (base + l) (base + l + r))) ⌝ }
 {
