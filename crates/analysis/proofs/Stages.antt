@@ -1,9 +1,8 @@
 -- What each check says of the reading: where one refuses, that is what reading answers; where it passes, what the next one asks.
 use mathlib.Core.Path.{_≡_, refl, sym, ap, _∙_}
 use mathlib.Core.Bool.{Bool, true, false}
-use mathlib.Core.List.{List, [], _∷_, map}
-use mathlib.Core.Option.{Option, none, some}
-use Prim.Native.Nat.{ℕ, suc, _+_, _-_, _≤_, _<_}
+use mathlib.Core.List.{List, []}
+use Prim.Native.Nat.{ℕ, suc, _-_, _≤_, _<_}
 use native.Mathlib.Omega.{arith}
 use lib.Dec.{ltb}
 use lib.ListN.{length, getD}
@@ -15,12 +14,12 @@ use Rattle.grammar.specs.Nesting.{nesting}
 use Rattle.grammar.specs.Declaration.{start}
 use Rattle.grammar.specs.Coded.{tokensFrom}
 use Rattle.grammar.specs.Blocks.{checkBlocks}
-use Rattle.grammar.specs.Answer.{Reading, Past, tokensOf, offsetOf, longestText, mostTokens, readText, readTokens}
+use Rattle.grammar.specs.Answer.{tokensOf, offsetOf, longestText, mostTokens, readText, readTokens}
 use Rattle.grammar.proofs.Operators.{distinct-start}
 use Rattle.grammar.proofs.RefusalNumbers.{blocks-number}
 use Rattle.grammar.proofs.RefusalPlaces.{nesting-place, blocks-place}
 use Rattle.grammar.proofs.Readings.{length-tokens}
-use Rattle.scan.specs.Tokens.{Stored, Scanning, codedScan}
+use Rattle.scan.specs.Tokens.{Scanning, codedScan}
 use Rattle.scan.specs.declared.tokens.Scanned.{Scanned}
 use Rattle.scan.specs.declared.tokens.Scanned.the-variants as Scan
 use Rattle.scan.proofs.Passed.{scanning-stored, passed-fits, passed-tokens, passed-kinds, passed-starts, passed-offset, passed-end}
@@ -29,14 +28,14 @@ use Rattle.nesting.specs.declared.Nested.{Nested}
 use Rattle.nesting.specs.declared.Nested.the-variants as Nest
 use Rattle.nesting.proofs.Laws.{nesting-by-kinds}
 use Rattle.nesting.proofs.PairedTokens.{paired}
-use Rattle.table.specs.Entries.{Starting, tableOf}
+use Rattle.table.specs.Entries.{Starting}
 use Rattle.table.specs.declared.Table as E
 use Rattle.resolve.specs.Resolved as Resolve
 use Rattle.resolve.specs.declared.Checked.{Checked}
 use Rattle.tree.specs.Built.{Arrays}
 use Rattle.tree.specs.Building.{arrays}
 use Rattle.analysis.specs.declared.Analysis.{Analysis}
-use Rattle.analysis.specs.Analysed.{Tokenized, Matched, Resolved, Ready, offsetIn, Outcomes, Analysed}
+use Rattle.analysis.specs.Analysed.{Tokenized, Matched, Resolved, offsetIn, Analysed}
 use Rattle.analysis.proofs.Agreement.{agreement}
 
 -- One number is below another, or not.

@@ -7,7 +7,6 @@ use spans::Spans;
 use table::Table;
 ghost use mathlib.Core.Path.{_≡_};
 ghost use Prim.Native.Nat.{_≤_};
-ghost use lib.ListN.{length};
 ghost use Rattle.tree.specs.Building.{arrays};
 ghost use Rattle.analysis.specs.Analysed.{offsetIn, Tokenized, Matched, Resolved, Analysed};
 

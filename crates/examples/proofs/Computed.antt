@@ -1,7 +1,7 @@
 -- T1 to T14 as one table and one statement, T3's listing, and the recorded cases. The definitions are opened and antt computes both
 -- sides.
 use mathlib.Core.Path.{_≡_, refl}
-use mathlib.Core.List.{List, [], _∷_, map}
+use mathlib.Core.List.{map}
 use Rattle.grammar.specs.Answer as Answer
 use Rattle.grammar.specs.Blocks as Blocks
 use Rattle.grammar.specs.Bytes as Bytes
@@ -24,7 +24,7 @@ use Rattle.examples.specs.Limits as Limits
 use Rattle.examples.specs.Limits.{limits}
 use Rattle.grammar.specs.Bytes.{bytes}
 use Rattle.examples.specs.Table.{table, given, asked, t3Listing}
-use Rattle.examples.specs.Cases.{Case, cases}
+use Rattle.examples.specs.Cases.{cases}
 
 -- What both services answer and leave in the buffers is what document 01 says, for each of T1 to T14.
 pub table-holds : map given table ≡ map (λ e. asked (e .expected)) table

@@ -2,7 +2,6 @@
 -- from this project): texts with what the program prints for them. Spread over the refusals that a text can give, overloaded
 -- blocks and plain rules.
 use mathlib.Core.List.{List, [], _∷_}
-use Prim.Native.Nat.{ℕ}
 use Rattle.grammar.specs.Bytes.{Bytes, bytes}
 
 pub record Case : Type 0 where

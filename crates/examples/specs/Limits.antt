@@ -1,5 +1,5 @@
 -- Document 01, "Just inside and just outside": texts at a limit and one past it, with what both services answer.
-use mathlib.Core.List.{List, [], _∷_, _++_, map}
+use mathlib.Core.List.{List, [], _∷_, _++_}
 use Prim.Native.Nat.{ℕ, zero, suc, _+_, _/_, _%_}
 use lib.ListN.{replicate}
 use Rattle.grammar.specs.Bytes.{Bytes, bytes}

@@ -1,14 +1,14 @@
 -- The answers of both services: their numbers, what a refusal leaves in the lent buffer, and exactly where 12 and 13 are given.
-use mathlib.Core.Path.{_≡_, refl, sym, ap, _∙_}
+use mathlib.Core.Path.{_≡_, refl, ap}
 use mathlib.Core.Logic.{_↔_, _⊎_, inl, inr}
 use mathlib.Core.Bool.{Bool, true, false, _&&_}
-use mathlib.Core.List.{List, [], _∷_, _++_}
+use mathlib.Core.List.{List, []}
 use mathlib.Core.Option.{Option, none, some}
-use Prim.Native.Nat.{ℕ, zero, suc, _+_, _*_, _≤_, _<_}
+use Prim.Native.Nat.{ℕ, suc, _+_, _*_, _≤_, _<_}
 use native.Mathlib.Omega.{arith}
 use lib.Dec.{leb}
-use lib.ListN.{length, drop, length-append, length-drop}
-use borrow.Author.Tests.{leb-true, leb-false, le-leb, lt-leb}
+use lib.ListN.{length, length-append, length-drop}
+use borrow.Author.Tests.{leb-true, leb-false, lt-leb}
 use Rattle.grammar.specs.Bytes.{Bytes}
 use Rattle.grammar.specs.Outcome.{Outcome, refused, passed, andThen, placed}
 use Rattle.grammar.specs.Scan.{Placed, scan}
@@ -17,31 +17,9 @@ use Rattle.grammar.specs.Declaration.{start, allTokens}
 use Rattle.grammar.specs.Tree.{Tree, nothing, leaf, bracket, block, node, flat}
 use Rattle.grammar.specs.Blocks.{checkBlocks, spans, firstWithout, treeOf}
 use Rattle.grammar.specs.Nodes.{count, words, nodeWords, wordsPerNode}
-use Rattle.grammar.specs.Answer.{
-  Reading,
-  Answer,
-  Result,
-  rejection,
-  success,
-  over,
-  tokensOf,
-  offsetOf,
-  found,
-  readSpans,
-  readTokens,
-  readText,
-  longestText,
-  mostTokens,
-  readingWords,
-  readInto,
-  read,
-  readingText,
-  writeInto,
-  canonicalizeInto,
-  canonicalize,
-}
+use Rattle.grammar.specs.Answer.{Reading, Answer, rejection, success, over, tokensOf, offsetOf, found, readSpans, readTokens, readText, longestText, mostTokens, readingWords, readInto, read, readingText, writeInto, canonicalizeInto, canonicalize}
 use Rattle.grammar.specs.Claim.{Proper}
-use Rattle.grammar.proofs.Logic.{and-left, and-right, and-intro}
+use Rattle.grammar.proofs.Logic.{and-left}
 use Rattle.grammar.proofs.RefusalNumbers.{Between, between-andThen, between-placed, between-wider, scan-between, nesting-between, blocks-between}
 
 spans-between : (text : Bytes) (ps : List Placed) (o : Option (Option ℕ)) → Between 1 11 (readSpans text ps o)

@@ -29,7 +29,7 @@ use Rattle.grammar.proofs.Scanned.{scan-spelled}
 use Rattle.grammar.proofs.Offsets.{scanned-stand}
 use Rattle.grammar.proofs.SpanRoot.{root-widest}
 use Rattle.grammar.proofs.TextTree.{tree-unique}
-use Rattle.grammar.proofs.Readings.{reading-tree, reading-only, tree-read, treeless-refused, refused-treeless}
+use Rattle.grammar.proofs.Readings.{reading-tree, tree-read, treeless-refused, refused-treeless}
 use Rattle.grammar.proofs.RoundTrip.{reads-back, same-text}
 use Rattle.grammar.proofs.Answers.{read-proper, canonicalize-proper, canonicalize-never-twelve, twelve-exactly, thirteen-exactly}
 

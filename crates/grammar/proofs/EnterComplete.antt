@@ -1,36 +1,16 @@
 -- Checks 8 to 10 refuse nothing that they should pass, and refuse where they should: each declaration that fits is read and takes
 -- effect, so the answer in front of declarations is the answer behind them, and that is one step.
 use mathlib.Core.Path.{_≡_, refl, sym, ap, _∙_}
-use mathlib.Core.Bool.{Bool, true, false, true≢false}
+use mathlib.Core.Bool.{true, false}
 use mathlib.Core.List.{List, [], _∷_, _++_, append-assoc, append-nil}
 use Prim.Native.Nat.{ℕ, zero, suc, _+_, _≤_, _<_}
 use native.Mathlib.Omega.{arith}
-use lib.Dec.{leb}
 use lib.ListN.{length, length-append}
 use borrow.Author.Tests.{le-leb, lt-leb}
 use Rattle.grammar.specs.Token.{Token}
 use Rattle.grammar.specs.Operator.{Table, lawfulTable}
 use Rattle.grammar.specs.Outcome.{refused, passed}
-use Rattle.grammar.specs.Declaration.{
-  Declaration,
-  declares,
-  clears,
-  declare,
-  declareAll,
-  declarationTokens,
-  allTokens,
-  isDeclaration,
-  areDeclarations,
-  Parsed,
-  unfit,
-  parsed,
-  declaration,
-  operatorPlace,
-  mostOperators,
-  hasRoom,
-  checkedAt,
-  enter,
-}
+use Rattle.grammar.specs.Declaration.{Declaration, declare, declareAll, declarationTokens, allTokens, isDeclaration, areDeclarations, Parsed, unfit, parsed, declaration, operatorPlace, mostOperators, hasRoom, checkedAt, enter}
 use Rattle.grammar.proofs.Declarations.{declaration-of, declaration-sound, tokens-shorter, declarations-first, enter-end, enter-step}
 
 -- Every table on the way has room for its operators.

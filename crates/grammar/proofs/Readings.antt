@@ -1,26 +1,25 @@
 -- Of texts: what is read is a tree of the text's own tokens and the only one; a text past checks 1 to 10 is refused with 11 exactly
 -- where it has no tree, at its first span that has none.
-use mathlib.Core.Path.{_≡_, refl, sym, ap, ap₂, _∙_}
+use mathlib.Core.Path.{_≡_, refl, sym, ap, _∙_}
 use mathlib.Core.Logic.{_⊎_, inl, inr}
 use mathlib.Core.Bool.{Bool, true, false}
 use mathlib.Core.List.{List, [], _∷_, _++_, List·Memᴰ, List·Memᴰ·head, Memᴰ·append-right}
 use mathlib.Core.Option.{Option, none, some}
-use Prim.Native.Nat.{ℕ, zero, suc, _+_, _≤_, _<_}
+use Prim.Native.Nat.{ℕ, suc, _+_, _≤_, _<_}
 use native.Mathlib.Omega.{arith}
 use lib.Dec.{leb}
 use lib.ListN.{length}
 use borrow.Author.Tests.{leb-true, le-leb}
 use Rattle.grammar.specs.Bytes.{Bytes}
-use Rattle.grammar.specs.Token.{Token}
 use Rattle.grammar.specs.Outcome.{Outcome, refused, passed, andThen, placed}
 use Rattle.grammar.specs.Scan.{Placed, scan}
-use Rattle.grammar.specs.Operator.{Table, Conditions}
+use Rattle.grammar.specs.Operator.{Conditions}
 use Rattle.grammar.specs.Declaration.{start}
 use Rattle.grammar.specs.Nesting.{nesting}
-use Rattle.grammar.specs.SpanTree.{SpanTree, IsSpanTree}
+use Rattle.grammar.specs.SpanTree.{SpanTree}
 use Rattle.grammar.specs.Tree.{Tree, IsTree}
 use Rattle.grammar.specs.Search.{treeOfSpan}
-use Rattle.grammar.specs.Blocks.{Span, spans, firstWithout, checkBlocks, treeOf, treeIn}
+use Rattle.grammar.specs.Blocks.{Span, firstWithout, checkBlocks, treeOf}
 use Rattle.grammar.specs.Answer.{
   Reading,
   Past,
@@ -35,8 +34,7 @@ use Rattle.grammar.specs.Answer.{
   mostTokens,
 }
 use Rattle.grammar.specs.Claim.{spansOf, HasNoTree, FirstWithout}
-use Rattle.grammar.proofs.Logic.{either, clash}
-use Rattle.grammar.proofs.Lists.{All, all-right}
+use Rattle.grammar.proofs.Lists.{all-right}
 use Rattle.grammar.proofs.SpanSearch.{treeOfSpan-sound, treeOfSpan-complete}
 use Rattle.grammar.proofs.SpanOrder.{first-by-start}
 use Rattle.grammar.proofs.ItemLists.{andThen-passed, andThen-refused}

@@ -2,22 +2,21 @@
 -- the same bytes exactly where the trees agree.
 use mathlib.Core.Path.{_≡_, refl, sym, ap, _∙_}
 use mathlib.Core.Logic.{_↔_}
-use mathlib.Core.Bool.{Bool, true, false}
-use mathlib.Core.List.{List, [], _∷_, _++_}
-use Prim.Native.Nat.{ℕ, zero, suc, _≤_, _<_}
+use mathlib.Core.Bool.{true}
+use mathlib.Core.List.{List}
+use Prim.Native.Nat.{suc, _≤_}
 use native.Mathlib.Omega.{arith}
 use lib.ListN.{length}
 use Rattle.grammar.specs.Bytes.{Bytes}
-use Rattle.grammar.specs.Token.{Token, areTokens}
+use Rattle.grammar.specs.Token.{areTokens}
 use Rattle.grammar.specs.Outcome.{passed}
-use Rattle.grammar.specs.Scan.{Placed, scan}
-use Rattle.grammar.specs.Nesting.{nesting, deepest}
+use Rattle.grammar.specs.Scan.{Placed}
+use Rattle.grammar.specs.Nesting.{deepest}
 use Rattle.grammar.specs.Declaration.{start}
-use Rattle.grammar.specs.Tree.{Tree, flat, depth, spanTree, IsTree}
-use Rattle.grammar.specs.Blocks.{checkBlocks}
+use Rattle.grammar.specs.Tree.{flat, depth, IsTree}
 use Rattle.grammar.specs.Nodes.{count}
 use Rattle.grammar.specs.Abstract.{abstract, Agree}
-use Rattle.grammar.specs.Canonical.{canonical, canonicalText, joinTokens, NoSpare}
+use Rattle.grammar.specs.Canonical.{canonical, canonicalText, joinTokens}
 use Rattle.grammar.specs.Answer.{Reading, Past, tokensOf, readText, readingText, longestText, mostTokens}
 use Rattle.grammar.specs.Claim.{ReadsBack}
 use Rattle.grammar.proofs.Plain.{Plain}

@@ -1,39 +1,21 @@
 -- Refusal 11: some span has no tree exactly where the text has none, and it is given at the first such span.
-use mathlib.Core.Path.{_≡_, refl, sym, ap, ap₂, _∙_}
-use mathlib.Core.Bool.{Bool, true, false}
+use mathlib.Core.Path.{_≡_, refl, ap, ap₂, _∙_}
 use mathlib.Core.List.{List, [], _∷_, _++_}
 use mathlib.Core.Option.{Option, none, some}
-use Prim.Native.Nat.{ℕ, zero, suc, _+_, _≤_, _<_}
+use Prim.Native.Nat.{ℕ, zero, suc, _+_, _<_}
 use native.Mathlib.Omega.{arith}
-use lib.ListN.{length, length-append}
-use Rattle.grammar.specs.Bytes.{Bytes}
+use lib.ListN.{length}
 use Rattle.grammar.specs.Token.{Token, symbol}
-use Rattle.grammar.specs.Outcome.{Outcome, refused, passed}
+use Rattle.grammar.specs.Outcome.{passed}
 use Rattle.grammar.specs.Operator.{Table, Conditions}
-use Rattle.grammar.specs.Declaration.{declareAll, declarations, enter}
+use Rattle.grammar.specs.Declaration.{declareAll, declarations}
 use Rattle.grammar.specs.Span.{Item, single, pair, scope, items, itemTokens}
-use Rattle.grammar.specs.SpanTree.{SpanTree, missing, operand, apply, IsSpanTree, yield}
-use Rattle.grammar.specs.Tree.{Tree, nothing, leaf, bracket, block, node, IsTree}
+use Rattle.grammar.specs.SpanTree.{SpanTree, missing, operand, apply, yield}
+use Rattle.grammar.specs.Tree.{Tree, nothing, leaf, bracket, block, node}
 use Rattle.grammar.specs.Search.{treeOfSpan}
-use Rattle.grammar.specs.Blocks.{
-  bodyTable,
-  checkBlocks,
-  Span,
-  itemSpans,
-  allItemSpans,
-  spans,
-  firstWithout,
-  underBracket,
-  underBlock,
-  underOperator,
-  hangItem,
-  hang,
-  hangFound,
-  treeIn,
-  treeOf,
-}
+use Rattle.grammar.specs.Blocks.{bodyTable, checkBlocks, Span, itemSpans, allItemSpans, spans, firstWithout, underBracket, underBlock, underOperator, hangItem, hang, hangFound, treeIn}
 use Rattle.grammar.proofs.Lists.{All, all-left, all-right, all-append}
-use Rattle.grammar.proofs.SpanSearch.{treeOfSpan-sound, treeOfSpan-complete}
+use Rattle.grammar.proofs.SpanSearch.{treeOfSpan-sound}
 use Rattle.grammar.proofs.Declarations.{enter-sound}
 use Rattle.grammar.proofs.ConditionsTest.{conditions-sound}
 use Rattle.grammar.proofs.ItemLists.{CheckedBy}

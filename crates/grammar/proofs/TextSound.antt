@@ -1,6 +1,5 @@
 -- What the search finds for a text past checks 6 to 10 is a tree of the text's own tokens.
 use mathlib.Core.Path.{_≡_, refl, sym, ap, ap₂, _∙_}
-use mathlib.Core.Bool.{Bool, true, false}
 use mathlib.Core.List.{List, [], _∷_, _++_, append-nil}
 use mathlib.Core.Option.{Option, none, some}
 use Prim.Native.Nat.{ℕ, zero, suc, _+_, _≤_, _<_}
@@ -8,27 +7,14 @@ use native.Mathlib.Omega.{arith}
 use lib.ListN.{length, length-append}
 use Rattle.grammar.specs.Bytes.{Bytes}
 use Rattle.grammar.specs.Token.{Token, symbol, opening, closing, keywordLet, keywordIn, keywordEnd}
-use Rattle.grammar.specs.Outcome.{Outcome, refused, passed}
-use Rattle.grammar.specs.Operator.{Table, Conditions}
-use Rattle.grammar.specs.Declaration.{Declaration, declareAll, declarations, allTokens, areDeclarations, enter}
-use Rattle.grammar.specs.Nesting.{nesting}
+use Rattle.grammar.specs.Outcome.{passed}
+use Rattle.grammar.specs.Operator.{Table}
+use Rattle.grammar.specs.Declaration.{Declaration, declareAll, declarations, allTokens, enter}
 use Rattle.grammar.specs.Span.{Item, single, pair, scope, items, itemTokens}
-use Rattle.grammar.specs.SpanTree.{SpanTree, missing, operand, apply, IsSpanTree, yield, present, Admitted}
-use Rattle.grammar.specs.Tree.{Tree, nothing, leaf, bracket, block, node, flat, spanTree, SpanOk, InnerOk, IsTree}
+use Rattle.grammar.specs.SpanTree.{SpanTree, missing, operand, apply, yield}
+use Rattle.grammar.specs.Tree.{Tree, nothing, leaf, bracket, block, node, flat, spanTree, InnerOk, IsTree}
 use Rattle.grammar.specs.Search.{treeOfSpan}
-use Rattle.grammar.specs.Blocks.{
-  bodyTable,
-  checkBlocks,
-  checkItems,
-  underBracket,
-  underBlock,
-  underOperator,
-  hangItem,
-  hang,
-  hangFound,
-  treeIn,
-  treeOf,
-}
+use Rattle.grammar.specs.Blocks.{bodyTable, checkBlocks, underBracket, underBlock, underOperator, hangItem, hang, hangFound, treeIn}
 use Rattle.grammar.proofs.SpanSearch.{treeOfSpan-sound}
 use Rattle.grammar.proofs.ItemsNested.{Passes, ItemNested, allItemTokens, append-tokens, items-tokens, items-nested}
 use Rattle.grammar.proofs.Declarations.{enter-sound}

@@ -1,18 +1,16 @@
 -- The tree that the search finds for a text is the only tree of the text: the search finds every tree there is, so two trees of
 -- one text are the same. The span's own tree comes from the search over its items; inner ones by induction on the fuel.
 use mathlib.Core.Path.{_≡_, refl, sym, ap, ap₂, _∙_}
-use mathlib.Core.Bool.{Bool, true, false}
 use mathlib.Core.List.{List, [], _∷_, _++_}
-use mathlib.Core.Option.{Option, none, some}
+use mathlib.Core.Option.{Option, some}
 use Prim.Native.Nat.{ℕ, zero, suc, _+_, _≤_, _<_}
 use native.Mathlib.Omega.{arith}
 use lib.ListN.{length, length-append}
 use Rattle.grammar.specs.Bytes.{Bytes}
-use Rattle.grammar.specs.Token.{Token, symbol, opening, closing, keywordLet, keywordIn, keywordEnd}
+use Rattle.grammar.specs.Token.{Token, symbol, closing, keywordIn, keywordEnd}
 use Rattle.grammar.specs.Operator.{Table, Conditions}
-use Rattle.grammar.specs.Declaration.{Declaration, declareAll, declarations, allTokens, areDeclarations}
-use Rattle.grammar.specs.Span.{Item, single, pair, scope, items}
-use Rattle.grammar.specs.SpanTree.{SpanTree, missing, operand, apply, IsSpanTree, yield}
+use Rattle.grammar.specs.Declaration.{Declaration, declareAll, declarations, allTokens}
+use Rattle.grammar.specs.Span.{items}
 use Rattle.grammar.specs.Tree.{Tree, nothing, leaf, bracket, block, node, flat, spanTree, SpanOk, InnerOk, IsTree}
 use Rattle.grammar.specs.Search.{treeOfSpan}
 use Rattle.grammar.specs.Blocks.{

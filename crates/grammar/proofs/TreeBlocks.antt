@@ -1,17 +1,16 @@
 -- Checks 8 to 10, seen from a tree: its tokens pass them exactly where the declarations of each of its blocks do.
 use mathlib.Core.Path.{_≡_, refl, sym, ap, _∙_}
 use mathlib.Core.Bool.{Bool, true, false}
-use mathlib.Core.List.{List, [], _∷_, _++_, map}
+use mathlib.Core.List.{List, [], _∷_, map}
 use mathlib.Core.Option.{Option, none, some}
 use Prim.Native.Nat.{ℕ, zero, suc, _+_, _≤_, _<_}
 use native.Mathlib.Omega.{arith}
-use lib.ListN.{length, length-append}
-use Rattle.grammar.specs.Bytes.{Bytes}
+use lib.ListN.{length}
 use Rattle.grammar.specs.Token.{Token, symbol}
-use Rattle.grammar.specs.Outcome.{Outcome, refused, passed, andThen}
+use Rattle.grammar.specs.Outcome.{Outcome, passed, andThen}
 use Rattle.grammar.specs.Operator.{Role, Table, role}
-use Rattle.grammar.specs.Declaration.{Declaration, declareAll, declarations, allTokens, enter}
-use Rattle.grammar.specs.Span.{Item, single, pair, scope, items, itemTokens}
+use Rattle.grammar.specs.Declaration.{declareAll, allTokens, enter}
+use Rattle.grammar.specs.Span.{Item, single, items, itemTokens}
 use Rattle.grammar.specs.SpanTree.{yield, Position, onLeft, onRight, admits, root, fixity}
 use Rattle.grammar.specs.Tree.{Tree, nothing, leaf, bracket, block, node, flat, spanTree, InnerOk}
 use Rattle.grammar.specs.Blocks.{checkItem, checkItems, checkBlocks}

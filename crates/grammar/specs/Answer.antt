@@ -1,7 +1,7 @@
 -- Document 01, "Thirteen ways to say no": what both services answer, and what the lent buffer holds afterwards.
 use mathlib.Core.Path.{_≡_}
-use mathlib.Core.Bool.{Bool, true, false, _&&_}
-use mathlib.Core.List.{List, [], _∷_, _++_, map}
+use mathlib.Core.Bool.{true, false, _&&_}
+use mathlib.Core.List.{List, [], _∷_, _++_}
 use mathlib.Core.Option.{Option, none, some}
 use Prim.Native.Nat.{ℕ, suc, _*_, _≤_}
 use lib.Dec.{leb}
@@ -12,7 +12,7 @@ use Rattle.grammar.specs.Outcome.{Outcome, refused, passed, andThen, pla
 use Rattle.grammar.specs.Scan.{Placed, scan}
 use Rattle.grammar.specs.Nesting.{nesting}
 use Rattle.grammar.specs.Declaration.{start as startTable}
-use Rattle.grammar.specs.Tree.{Tree, flat}
+use Rattle.grammar.specs.Tree.{Tree}
 use Rattle.grammar.specs.Blocks.{checkBlocks, spans, firstWithout, treeOf}
 use Rattle.grammar.specs.Nodes.{count, words, wordsPerNode}
 use Rattle.grammar.specs.Canonical.{canonical, canonicalText}

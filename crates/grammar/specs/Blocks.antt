@@ -1,12 +1,11 @@
 -- A text's blocks and spans in order: refusals 8 to 11, and the tree of a text. Places are token numbers.
-use mathlib.Core.Bool.{Bool, true, false}
 use mathlib.Core.List.{List, [], _∷_, _++_}
 use mathlib.Core.Option.{Option, none, some}
 use Prim.Native.Nat.{ℕ, zero, suc, _+_}
 use lib.ListN.{length}
 use Rattle.grammar.specs.Bytes.{Bytes}
 use Rattle.grammar.specs.Token.{Token}
-use Rattle.grammar.specs.Outcome.{Outcome, refused, passed, andThen}
+use Rattle.grammar.specs.Outcome.{Outcome, passed, andThen}
 use Rattle.grammar.specs.Operator.{Table}
 use Rattle.grammar.specs.Declaration.{Declaration, declareAll, declarations, enter}
 use Rattle.grammar.specs.Span.{Item, single, pair, scope, itemTokens, items}

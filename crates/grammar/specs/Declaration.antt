@@ -18,22 +18,7 @@ use Rattle.grammar.specs.Token.{
   keywordIn,
   keywordEnd,
 }
-use Rattle.grammar.specs.Operator.{
-  Fixity,
-  Prefix,
-  Infix,
-  Postfix,
-  Associativity,
-  left,
-  right,
-  non,
-  Role,
-  allowed,
-  Table,
-  declareRole,
-  removeRoles,
-  lawfulTable,
-}
+use Rattle.grammar.specs.Operator.{Fixity, Prefix, Infix, Postfix, Associativity, left, right, non, allowed, Table, declareRole, removeRoles, lawfulTable}
 use Rattle.grammar.specs.Outcome.{Outcome, refused, passed}
 
 -- "`infix SIDE LEVEL MARK ;`, `prefix SIDE LEVEL MARK ;`, `postfix SIDE LEVEL MARK ;`, `plain MARK ;`"

@@ -1,10 +1,10 @@
 -- Document 01: "A program reads standard input and prints the answer, the nodes (index, kind, first, second, offset, length),
 -- then tidy length and text, or `refused N at P`; where only tidying is refused, that line follows the nodes."
-use mathlib.Core.Bool.{Bool, true, false}
+use mathlib.Core.Bool.{true, false}
 use mathlib.Core.List.{List, [], _∷_, _++_}
 use Prim.Native.Nat.{ℕ, zero, suc, _+_, _*_, _/_, _%_}
 use lib.Dec.{ltb, eqb}
-use lib.ListN.{length, take, drop, getD, replicate}
+use lib.ListN.{take, drop, getD, replicate}
 use Rattle.grammar.specs.Bytes.{Bytes, bytes}
 use Rattle.grammar.specs.Answer.{Answer, Result, read, canonicalize, longestText, mostTokens}
 use Rattle.grammar.specs.Nodes.{wordsPerNode}

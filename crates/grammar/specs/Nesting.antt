@@ -1,5 +1,5 @@
 -- Document 01, refusals 6 and 7: brackets and blocks, and how deep they stand. Places are token numbers.
-use mathlib.Core.Bool.{Bool, true, false}
+use mathlib.Core.Bool.{true, false}
 use mathlib.Core.List.{List, [], _∷_}
 use Prim.Native.Nat.{ℕ, suc}
 use lib.Dec.{ltb}

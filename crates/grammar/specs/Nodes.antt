@@ -1,5 +1,5 @@
 -- Document 01, "Node table": the words of a tree.
-use mathlib.Core.Bool.{Bool, true, false}
+use mathlib.Core.Bool.{true, false}
 use mathlib.Core.List.{List, [], _∷_, _++_}
 use Prim.Native.Nat.{ℕ, suc, pred, _+_, _-_}
 use lib.ListN.{length}
@@ -17,7 +17,7 @@ use Rattle.grammar.specs.Token.{
   keywordEnd,
 }
 use Rattle.grammar.specs.Operator.{Fixity, Prefix, Infix, Postfix}
-use Rattle.grammar.specs.Declaration.{Declaration, allTokens}
+use Rattle.grammar.specs.Declaration.{allTokens}
 use Rattle.grammar.specs.SpanTree.{present, fixity}
 use Rattle.grammar.specs.Tree.{Tree, nothing, leaf, bracket, block, node, flat, spanTree}
 

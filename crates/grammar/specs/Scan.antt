@@ -1,41 +1,12 @@
 -- Document 01, refusals 2 to 5: a text as tokens, each with the offset of its first byte.
 -- Places here are byte offsets.
 use mathlib.Core.Bool.{Bool, true, false, _&&_}
-use mathlib.Core.List.{List, [], _∷_, _++_}
+use mathlib.Core.List.{List, [], _∷_}
 use Prim.Native.Nat.{ℕ, zero, suc, _+_}
 use lib.Dec.{leb, eqb}
-use lib.ListN.{length, take, drop, getD}
+use lib.ListN.{take, drop, getD}
 use Rattle.grammar.specs.Bytes.{Bytes, bytes, same}
-use Rattle.grammar.specs.Token.{
-  class,
-  isBlankByte,
-  blank,
-  letter,
-  digit,
-  underscore,
-  sign,
-  quote,
-  opens,
-  closes,
-  separates,
-  other,
-  inWord,
-  inSign,
-  inNumber,
-  inQuotes,
-  Token,
-  symbol,
-  number,
-  quoted,
-  opening,
-  closing,
-  semicolon,
-  keywordLet,
-  keywordIn,
-  keywordEnd,
-  longestName,
-  longestNumber,
-}
+use Rattle.grammar.specs.Token.{class, isBlankByte, letter, digit, sign, quote, opens, closes, separates, inWord, inSign, inNumber, inQuotes, Token, symbol, number, quoted, opening, closing, semicolon, keywordLet, keywordIn, keywordEnd, longestName, longestNumber}
 use Rattle.grammar.specs.Outcome.{Outcome, refused, passed}
 
 pub record Placed : Type 0 where

@@ -1,24 +1,13 @@
 -- The tree of a span, found: document 01, "The root of a span is sought among its marks of the widest level".
 use mathlib.Core.Bool.{Bool, true, false, _&&_, _||_}
-use mathlib.Core.List.{List, [], _∷_, _++_}
+use mathlib.Core.List.{List, [], _∷_}
 use mathlib.Core.Option.{Option, none, some}
 use Prim.Native.Nat.{ℕ, zero, suc, max}
 use lib.Dec.{eqb}
 use lib.ListN.{length}
 use Rattle.grammar.specs.Bytes.{Bytes, isEmpty}
-use Rattle.grammar.specs.Token.{
-  Token,
-  symbol,
-  number,
-  quoted,
-  opening,
-  closing,
-  semicolon,
-  keywordLet,
-  keywordIn,
-  keywordEnd,
-}
-use Rattle.grammar.specs.Operator.{Fixity, Prefix, Infix, Postfix, Role, Roles, Table, role, hasRole}
+use Rattle.grammar.specs.Token.{symbol, number, quoted, opening, closing, semicolon, keywordLet, keywordIn, keywordEnd}
+use Rattle.grammar.specs.Operator.{Prefix, Infix, Postfix, Role, Roles, Table, role, hasRole}
 use Rattle.grammar.specs.Span.{Item, single, pair, scope}
 use Rattle.grammar.specs.SpanTree.{
   SpanTree,

@@ -1,6 +1,6 @@
 -- Document 01, "Trees": what is a tree of a text. Nothing here says how one is found.
 use mathlib.Core.Path.{_≡_}
-use mathlib.Core.Bool.{Bool, true, false}
+use mathlib.Core.Bool.{true}
 use mathlib.Core.List.{List, [], _∷_, _++_}
 use Prim.Native.Nat.{ℕ, suc, max}
 use Rattle.grammar.specs.Bytes.{Bytes}

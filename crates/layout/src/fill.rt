@@ -1,6 +1,5 @@
 // The items of a span, one behind the other, with the numbers of their roles.
-ghost use Prim.Native.Nat.{_+_, _-_, _≤_};
-ghost use Rattle.nesting.specs.Paired.{Paired};
+ghost use Prim.Native.Nat.{_+_, _-_};
 ghost use Rattle.layout.specs.Filled.{Filled, Fillable};
 
 // The items of the tokens from `from` to `to`: from entry `first` on, `items` gets the number of each item's first token, and the last

@@ -3,32 +3,17 @@
 -- meets next with nothing more open is the one that the range stops before.
 use mathlib.Core.Path.{_≡_, refl, ap, _∙_}
 use mathlib.Core.Bool.{Bool, true, false, true≢false}
-use mathlib.Core.List.{List, [], _∷_, _++_, append-assoc, append-nil}
+use mathlib.Core.List.{List, [], _∷_, _++_, append-assoc}
 use Prim.Native.Nat.{ℕ, zero, suc, _+_, _-_, _≤_, _<_}
 use native.Mathlib.Omega.{arith}
 use lib.ListN.{length, getD, length-append}
 use Rattle.grammar.specs.Bytes.{Bytes}
 use Rattle.grammar.specs.Token.{Token, symbol, number, quoted, opening, closing, semicolon, keywordLet, keywordIn, keywordEnd}
 use Rattle.grammar.specs.Declaration.{isSemicolon}
-use Rattle.grammar.specs.Span.{Item, single, pair, scope, itemTokens, opensOne, closesOne, neither, effect, item, inside, itemsFrom, items}
+use Rattle.grammar.specs.Span.{Item, single, pair, scope, itemTokens, opensOne, closesOne, neither, effect, item, itemsFrom, items}
 use Rattle.grammar.specs.Coded.{kindOf, tokenOf, tokenAt, tokensFrom}
 use Rattle.grammar.proofs.Plain.{isContent}
-use Rattle.grammar.proofs.Items.{
-  isQuiet,
-  AllQuiet,
-  content-quiet,
-  effect-quiet,
-  item-block,
-  collects,
-  outside-content,
-  Collected,
-  collected-none,
-  collected-append,
-  collected-all-quiet,
-  collected-block,
-  collected-pair,
-  outside-pair,
-}
+use Rattle.grammar.proofs.Items.{isQuiet, AllQuiet, content-quiet, effect-quiet, item-block, collects, outside-content, Collected, collected-none, collected-append, collected-block, collected-pair, outside-pair}
 use Rattle.nesting.specs.Paired.{IsContentKind, IsQuietKind, Paired, done, content, bracket, block, numbersFrom}
 use Rattle.nesting.proofs.Moves.{token-content}
 

@@ -1,9 +1,7 @@
 -- Tokens whose brackets and blocks match, by their kinds and the numbers of their closers: what later passes over the tokens go by.
 use mathlib.Core.Path.{_≡_}
-use mathlib.Core.Bool.{Bool, true, false}
 use mathlib.Core.List.{List, [], _∷_}
 use Prim.Native.Nat.{ℕ, suc, _+_, _≤_, _<_}
-use lib.Dec.{leb, eqb}
 use lib.ListN.{length, getD}
 use Rattle.grammar.specs.Span.{Item, itemTokens}
 

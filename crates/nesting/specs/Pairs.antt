@@ -1,30 +1,13 @@
 -- Nesting over kinds of tokens, with the number of the token that closes each opener.
 use mathlib.Core.Path.{_≡_}
-use mathlib.Core.Bool.{Bool, true, false}
-use mathlib.Core.List.{List, [], _∷_, map}
+use mathlib.Core.Bool.{true, false}
+use mathlib.Core.List.{List, [], _∷_}
 use Prim.Native.Nat.{ℕ, zero, suc, _≤_}
 use lib.Dec.{ltb, eqb}
 use lib.ListN.{length, set, getD}
 use Rattle.grammar.specs.Token.{Token}
 use Rattle.grammar.specs.Outcome.{Outcome, refused, passed}
-use Rattle.grammar.specs.Nesting.{
-  Open,
-  inBracket,
-  inDeclarations,
-  inBody,
-  Move,
-  stays,
-  broken,
-  enters,
-  becomes,
-  leaves,
-  outermost,
-  within,
-  move,
-  closeInnermost,
-  deepest,
-  nesting,
-}
+use Rattle.grammar.specs.Nesting.{Open, inBracket, inDeclarations, inBody, Move, stays, broken, enters, becomes, leaves, move, deepest, nesting}
 use Rattle.grammar.specs.Coded.{tokenOf}
 use Rattle.nesting.specs.declared.Nested.{Nested}
 use Rattle.nesting.specs.declared.Nested.the-variants.{Passed, Refused}

@@ -1,6 +1,5 @@
 // Brackets and blocks: document 01's refusals 6 and 7, and which token closes which.
 ghost use mathlib.Core.Path.{_≡_};
-ghost use mathlib.Core.List.{[]};
 ghost use Rattle.nesting.specs.Pairs.{moveCode, InArrays, Pairing};
 
 // What a token of a kind does where a pair of that sort is open (0 none, 1 bracket pair, 2 block before its `in`, 3 after it):

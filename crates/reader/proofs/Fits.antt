@@ -1,5 +1,5 @@
 -- The nodes that reading counts stand in the table.
-use mathlib.Core.Path.{_≡_, refl, sym, ap, _∙_}
+use mathlib.Core.Path.{_≡_, refl, ap}
 use mathlib.Core.Bool.{Bool, true, false}
 use mathlib.Core.List.{List}
 use Prim.Native.Nat.{ℕ, _*_, _≤_}
@@ -11,7 +11,7 @@ use Rattle.grammar.specs.Bytes.{Bytes}
 use Rattle.grammar.specs.Outcome.{Outcome, refused, passed}
 use Rattle.grammar.specs.Nodes.{count, wordsPerNode}
 use Rattle.grammar.specs.Answer as G
-use Rattle.grammar.specs.Answer.{Reading, Result, readText, readInto, rejection, success}
+use Rattle.grammar.specs.Answer.{Reading, readText, readInto, rejection, success}
 use Rattle.reader.specs.declared.Answer.{Answer}
 use Rattle.reader.specs.Answered.{answerOf, resultOf, Reads}
 

@@ -1,5 +1,5 @@
 -- What reading answers after checks 1 to 11: a refusal, 12, or the words of the tree.
-use mathlib.Core.Path.{_≡_, refl, sym, ap, ap₂, _∙_}
+use mathlib.Core.Path.{_≡_, refl, ap, ap₂, _∙_}
 use mathlib.Core.Option.{some}
 use mathlib.Core.List.{List, _++_}
 use Prim.Native.Nat.{ℕ, suc, _+_, _-_, _*_, _≤_, _<_}
@@ -9,14 +9,13 @@ use borrow.Author.Tests.{le-leb, lt-leb}
 use Rattle.grammar.specs.Bytes.{Bytes}
 use Rattle.grammar.specs.Outcome.{Outcome, refused, passed}
 use Rattle.grammar.specs.Declaration.{start}
-use Rattle.grammar.specs.Tree.{flat}
 use Rattle.grammar.specs.Blocks.{treeIn, treeOf}
 use Rattle.grammar.specs.Nodes.{count, words, wordsPerNode}
 use Rattle.grammar.specs.Answer as G
 use Rattle.grammar.specs.Answer.{Reading, tokensOf, offsetOf, readText, readInto, readingWords, rejection, success}
 use Rattle.grammar.proofs.ConditionsTest.{conditions-start}
 use Rattle.grammar.proofs.TextTree.{treeOf-complete}
-use Rattle.grammar.proofs.Readings.{reading-tree, length-tokens}
+use Rattle.grammar.proofs.Readings.{reading-tree}
 use Rattle.grammar.proofs.RoundTrip.{few-nodes}
 use Rattle.grammar.proofs.RefusalNumbers.{between-number}
 use Rattle.grammar.proofs.Answers.{read-between}

@@ -1,7 +1,7 @@
 // Classes of bytes, runs of a class, and comparing byte strings.
 ghost use mathlib.Core.Path.{_≡_};
-ghost use Prim.Native.Nat.{_≤_, _<_};
-ghost use lib.ListN.{length, drop};
+ghost use Prim.Native.Nat.{_<_};
+ghost use lib.ListN.{drop};
 ghost use Rattle.grammar.specs.Bytes.{same};
 ghost use Rattle.grammar.specs.Token.{class as classOf};
 ghost use Rattle.grammar.specs.Scan.{run as runOf};

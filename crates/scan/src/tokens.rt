@@ -1,7 +1,7 @@
 // The token at a place of a text, and all tokens of a text: document 01, refusals 2 to 5.
 use crate::bytes;
 ghost use mathlib.Core.Path.{_≡_};
-ghost use Prim.Native.Nat.{_+_, _≤_, _<_};
+ghost use Prim.Native.Nat.{_+_, _<_};
 ghost use lib.ListN.{length, take, drop};
 ghost use Rattle.grammar.specs.Scan.{keywordOrSymbol, quotedName, frontOf, front};
 ghost use Rattle.grammar.specs.Token.{letter};

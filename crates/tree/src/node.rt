@@ -1,11 +1,11 @@
 // The words of one node, written into a lent table.
 ghost use mathlib.Core.Path.{_≡_};
-ghost use mathlib.Core.List.{_∷_, []};
+ghost use mathlib.Core.List.{[]};
 ghost use Prim.Native.Nat.{pred, _+_, _-_, _*_, _<_};
 ghost use lib.ListN.{getD};
 ghost use lib.Seq.{sets};
 ghost use Rattle.grammar.specs.Nodes.{nodeWords};
-ghost use Rattle.tree.specs.Built.{tokenNode, bracketNode, blockNode, operatorNode};
+ghost use Rattle.tree.specs.Built.{tokenNode, bracketNode, operatorNode};
 ghost use Rattle.tree.specs.Building.{arrays, NodeIn, FewNodes, TokenIn, BlockIn, TokenNumber};
 
 // An offset and a length as words.

@@ -4,7 +4,7 @@ use mathlib.Core.Path.{_≡_, _∙_}
 use mathlib.Core.List.{List}
 use Prim.Native.Nat.{ℕ, _+_, _*_, _≤_}
 use native.Mathlib.Omega.{arith}
-use lib.ListN.{length, take, drop, getD, List·getD-eq-default}
+use lib.ListN.{length, take, drop, List·getD-eq-default}
 use Rattle.grammar.specs.Bytes.{Bytes}
 use Rattle.reader.specs.Answered.{nodeCharacters}
 use Rattle.reader.proofs.characters.Statement.{statement}

@@ -1,5 +1,4 @@
 -- Five stores in a row are `sets` of five words; each index is below the length that stays.
-use mathlib.Core.Path.{refl}
 use native.Mathlib.Numerals.{add-one, add-two, add-three, add-four}
 use native.Mathlib.Omega.{arith}
 use lib.ListN.{length-set}
