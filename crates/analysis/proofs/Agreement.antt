@@ -2,13 +2,13 @@
 -- roles, and every block begins with whole declarations. By induction over the paired tokens; of the inside of a bracket pair or block
 -- it is known from the spans of that item and from its check.
 use mathlib.Core.Path.{_≡_, refl, ap, subst}
-use mathlib.Core.List.{List, [], _∷_, _++_}
+use mathlib.Core.List.{List, _∷_}
 use mathlib.Core.Option.{Option, none, some}
 use Prim.Native.Nat.{ℕ, zero, suc, pred, _+_, _-_, _≤_, _<_}
 use native.Mathlib.Omega.{arith}
-use lib.ListN.{length, drop, getD, length-append}
+use lib.ListN.{length, drop, getD}
 use Rattle.grammar.specs.Bytes.{Bytes}
-use Rattle.grammar.specs.Token.{Token, closing, keywordIn, keywordEnd}
+use Rattle.grammar.specs.Token.{Token}
 use Rattle.grammar.specs.Outcome.{passed}
 use Rattle.grammar.specs.Scan.{Placed}
 use Rattle.grammar.specs.Operator.{Fixity, Prefix, Infix, Postfix, Table}
@@ -23,7 +23,7 @@ use Rattle.grammar.proofs.Declarations.{enter-sound}
 use Rattle.scan.specs.Tokens.{Stored}
 use Rattle.scan.proofs.Passed.{passed-tokens, passed-within, passed-quoted}
 use Rattle.nesting.specs.Paired.{IsContentKind, Paired, done, content, bracket, block, numbersFrom}
-use Rattle.nesting.proofs.PairedItems.{length-range, items-content, items-bracket, items-block}
+use Rattle.nesting.proofs.PairedItems.{behind-pair, behind-scope, length-range, items-content, items-bracket, items-block}
 use Rattle.resolve.specs.Resolved.{numberOf, writtenRoles}
 use Rattle.resolve.proofs.SpanRoles.{contentsStart, RolesFrom, RolesIn, roles-of-spans}
 use Rattle.search.specs.Slots.{slot, operatorSlot, slotOf}
@@ -115,7 +115,7 @@ module _ (A : Arrays) where
         brackets c y w l m z (first-slot g)
         (range-agrees p (omega arith) (pred k) T (omega arith)
         (span-resolved k T (some i) (suc i) first ts refl (omega arith) (first-spans g) checked))
-        (range-agrees q b k T (omega arith) (behind-first g (suc c) (omega (arith, length-append ts (closing ∷ [])))))
+        (range-agrees q b k T (omega arith) (behind-first g (suc c) (behind-pair text (A .kinds) (A .starts) (A .sizes) i c l)))
     range-agrees (block {i = i} {to = to} c e y w v l m r z x quiet p q) b k T d h =
         let ds = tokens A text (suc i) c in
         let ts = tokens A text (suc c) e in
@@ -128,7 +128,7 @@ module _ (A : Arrays) where
         (range-agrees p (omega arith) (pred k) (bodyTable T ds) (omega arith)
         (span-resolved k (bodyTable T ds) (some c) (suc c) first ts refl (omega arith) (λ f. rw opener at (first-spans g f)) checked))
         (range-agrees q b k T (omega arith)
-        (behind-first g (suc e) (omega (arith, length-append (ds ++ keywordIn ∷ ts) (keywordEnd ∷ []), length-append ds (keywordIn ∷ ts)))))
+        (behind-first g (suc e) (behind-scope text (A .kinds) (A .starts) (A .sizes) i c e l m)))
 
 -- What resolving the whole text writes for one fixity, and what is known of the text's items when it has done so for all three.
 module _

@@ -210,6 +210,26 @@ module _ (text : Bytes) (K S Z : List ℕ) where
       (outside-items true keywordLet keywordEnd refl refl (ds ++ keywordIn ∷ ts) (range text K S Z (suc e) to)
       (collected-block ds ts q (collected-range p)))
 
+  -- The token behind a bracket pair and behind a block.
+  pub behind-pair : (i c : ℕ) → i < c → i + length (itemTokens (pair (range text K S Z (suc i) c))) ≡ suc c
+  unfolding itemTokens
+  behind-pair i c l = omega (arith, length-append (range text K S Z (suc i) c) (closing ∷ []), length-range (suc i) c)
+
+  pub behind-scope :
+      (i c e : ℕ) → i < c → c < e
+      → i + length (itemTokens (scope (range text K S Z (suc i) c) (range text K S Z (suc c) e))) ≡ suc e
+  unfolding itemTokens
+  behind-scope i c e l m =
+      let ds = range text K S Z (suc i) c in
+      let ts = range text K S Z (suc c) e in
+      omega (
+        arith,
+        length-append (ds ++ keywordIn ∷ ts) (keywordEnd ∷ []),
+        length-append ds (keywordIn ∷ ts),
+        length-range (suc i) c,
+        length-range (suc c) e,
+      )
+
   -- And the numbers of their first tokens.
   pub numbers-done : (to : ℕ) → numbersFrom to (items (range text K S Z to to)) ≡ []
   unfolding numbersFrom
@@ -222,19 +242,10 @@ module _ (text : Bytes) (K S Z : List ℕ) where
 
   pub numbers-bracket : {C : List ℕ} (i c to : ℕ) → getD K i 0 ≡ 4 → i < c → c < to → getD K c 0 ≡ 5 → Paired K C (suc i) c
       → numbersFrom i (items (range text K S Z i to)) ≡ i ∷ numbersFrom (suc c) (items (range text K S Z (suc c) to))
-  unfolding itemTokens
-  numbers-bracket i c to k l m y p =
-      numbers-next i (suc c) _ _ _ (items-bracket i c to k l m y p)
-      (omega (arith, length-append (range text K S Z (suc i) c) (closing ∷ []), length-range (suc i) c))
+  numbers-bracket i c to k l m y p = numbers-next i (suc c) _ _ _ (items-bracket i c to k l m y p) (behind-pair i c l)
 
   pub numbers-block : {C : List ℕ} (i c e to : ℕ) → getD K i 0 ≡ 7 → i < c → c < e → e < to → getD K c 0 ≡ 8 → getD K e 0 ≡ 9
       → ((j : ℕ) → i < j → j < c → IsQuietKind (getD K j 0)) → Paired K C (suc c) e
       → numbersFrom i (items (range text K S Z i to)) ≡ i ∷ numbersFrom (suc e) (items (range text K S Z (suc e) to))
-  unfolding itemTokens
   numbers-block i c e to k l m n y z f p =
-      let ds = range text K S Z (suc i) c in
-      let ts = range text K S Z (suc c) e in
-      let a = length-append (ds ++ keywordIn ∷ ts) (keywordEnd ∷ []) in
-      let b = length-append ds (keywordIn ∷ ts) in
-      numbers-next i (suc e) _ _ _ (items-block i c e to k l m n y z f p)
-      (omega (arith, a, b, length-range (suc i) c, length-range (suc c) e))
+      numbers-next i (suc e) _ _ _ (items-block i c e to k l m n y z f p) (behind-scope i c e l m)

@@ -4,14 +4,14 @@
 -- numbers written there, so that an inner span's law serves for the array of the whole.
 use mathlib.Core.Path.{_≡_, refl, ap, _∙_}
 use mathlib.Core.Logic.{_⊎_, inl, inr}
-use mathlib.Core.List.{List, [], _∷_, _++_, map}
+use mathlib.Core.List.{List, _∷_, _++_, map}
 use mathlib.Core.Option.{Option, none, some}
 use Prim.Native.Nat.{ℕ, zero, suc, _+_, _-_, _≤_, _<_}
 use native.Mathlib.Omega.{arith}
-use lib.ListN.{length, getD, set, length-append, length-set}
+use lib.ListN.{length, getD, set, length-set}
 use lib.Seq.{getD-set-same, getD-set-other}
 use Rattle.grammar.specs.Bytes.{Bytes}
-use Rattle.grammar.specs.Token.{Token, closing, keywordIn, keywordEnd}
+use Rattle.grammar.specs.Token.{Token}
 use Rattle.grammar.specs.Operator.{Fixity, Table}
 use Rattle.grammar.specs.Coded.{tokenAt}
 use Rattle.grammar.specs.Span.{Item, single, pair, scope, itemTokens, items}
@@ -19,7 +19,7 @@ use Rattle.grammar.specs.Search.{symbolAt, operatorAt}
 use Rattle.grammar.specs.Blocks.{bodyTable, Span, itemSpans, allItemSpans, spans}
 use Rattle.grammar.proofs.Lists.{All, all-append}
 use Rattle.nesting.specs.Paired.{Paired, done, content, bracket, block, numbersFrom}
-use Rattle.nesting.proofs.PairedItems.{range, length-range, items-done, items-content, items-bracket, items-block}
+use Rattle.nesting.proofs.PairedItems.{behind-pair, behind-scope, range, length-range, items-done, items-content, items-bracket, items-block}
 use Rattle.resolve.specs.Resolved.{numberOf, writeItem, writeItems, writtenRoles}
 
 -- `M` is `L` but for the places from `i` to `to`.
@@ -211,13 +211,11 @@ module _ (text : Bytes) (K S Z C : List ℕ) (f : Fixity) where
       (single-written k T i (tokenAt text K S Z i) L) (range-written p k T _)
   range-written (bracket {i = i} {to = to} c n w l m y p q) k T L =
       next-written k T i (suc c) to (pair (part (suc i) c)) L (items-bracket text K S Z i c to n l m y p)
-      (omega (arith, length-append (part (suc i) c) (closing ∷ []), length-range text K S Z (suc i) c)) (omega arith) m
+      (behind-pair text K S Z i c l) (omega arith) m
       (pair-written i c (range-written p) l k T L) (range-written q k T _)
   range-written (block {i = i} {to = to} c e n w v l m h y z g p q) k T L =
-      let a = length-append (part (suc i) c ++ keywordIn ∷ part (suc c) e) (keywordEnd ∷ []) in
-      let b = length-append (part (suc i) c) (keywordIn ∷ part (suc c) e) in
       next-written k T i (suc e) to (scope (part (suc i) c) (part (suc c) e)) L (items-block text K S Z i c e to n l m h y z g p)
-      (omega (arith, a, b, length-range text K S Z (suc i) c, length-range text K S Z (suc c) e)) (omega arith) h
+      (behind-scope text K S Z i c e l m) (omega arith) h
       (scope-written i c e (range-written p) l m k T L) (range-written q k T _)
 
   module _ {i to : ℕ} (p : Paired K C i to) (T : Table) (L : List ℕ) where

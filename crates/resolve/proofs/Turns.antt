@@ -2,13 +2,13 @@
 -- on answer, and writing the numbers of all items over what the arrays held first is writing those over what they hold now. A turn
 -- answers, or passes over one item. This holds at every fuel that the range's tokens do not exceed.
 use mathlib.Core.Path.{_≡_, refl, sym, ap, subst, _∙_}
-use mathlib.Core.List.{List, [], _∷_, _++_}
+use mathlib.Core.List.{List, [], _∷_}
 use Prim.Native.Nat.{ℕ, zero, suc, _+_, _-_, _≤_, _<_}
 use native.Mathlib.Omega.{arith}
 use native.Mathlib.Numerals.{add-one}
-use lib.ListN.{length, getD, set, length-append}
+use lib.ListN.{length, getD, set}
 use Rattle.grammar.specs.Bytes.{Bytes}
-use Rattle.grammar.specs.Token.{Token, closing, keywordIn, keywordEnd}
+use Rattle.grammar.specs.Token.{Token}
 use Rattle.grammar.specs.Outcome.{Outcome, refused, passed, andThen}
 use Rattle.grammar.specs.Operator.{Fixity, Prefix, Infix, Postfix, Distinct}
 use Rattle.grammar.specs.Operator as G
@@ -21,7 +21,7 @@ use Rattle.grammar.proofs.Declarations.{enter-sound}
 use Rattle.grammar.proofs.Operators.{distinct-declared}
 use Rattle.grammar.proofs.RefusalNumbers.{blocks-number, enter-number}
 use Rattle.nesting.specs.Paired.{Paired}
-use Rattle.nesting.proofs.PairedItems.{range, length-range, items-done, items-content, items-bracket, items-block}
+use Rattle.nesting.proofs.PairedItems.{behind-pair, behind-scope, range, length-range, items-done, items-content, items-bracket, items-block}
 use Rattle.nesting.proofs.PairedCases.{BracketAt, BlockAt, paired-ordered, paired-content}
 use Rattle.table.specs.Entries.{tableOf, Sized, Coded}
 use Rattle.table.specs.declared.Table.{Table}
@@ -206,9 +206,7 @@ module _
         bracket-items = items-bracket text K S Z i c to isOpening (at .before) (at .within) (at .isClosing) (at .inner)
 
         bracket-length : i + length (itemTokens (pair (part (suc i) c))) ≡ suc c
-        unfolding itemTokens
-        bracket-length =
-            omega (arith, at .before, length-append (part (suc i) c) (closing ∷ []), length-range text K S Z (suc i) c)
+        bracket-length = behind-pair text K S Z i c (at .before)
 
         enough : (k : ℕ) → to - from ≤ k → c - suc i < k
         enough k l = omega (arith, inv .low, at .before, at .within)
@@ -237,11 +235,7 @@ module _
           items-block text K S Z i c e to (at .isLet) (at .before) (at .between) (at .within) (at .isIn) (at .isEnd) (at .quiet) (at .body)
 
       block-length : i + length (itemTokens (scope declared (part (suc c) e))) ≡ suc e
-      unfolding itemTokens
-      block-length =
-          let a = length-append (declared ++ keywordIn ∷ part (suc c) e) (keywordEnd ∷ []) in
-          let b = length-append declared (keywordIn ∷ part (suc c) e) in
-          omega (arith, a, b, length-range text K S Z (suc i) c, length-range text K S Z (suc c) e, at .before, at .between)
+      block-length = behind-scope text K S Z i c e (at .before) (at .between)
 
       body-begins : suc (suc (i + length declared)) ≡ suc c
       body-begins = omega (arith, length-range text K S Z (suc i) c, at .before)

@@ -8,17 +8,16 @@ use mathlib.Core.Option.{Option, none, some}
 use Prim.Native.Nat.{ℕ, zero, suc, _+_, _-_, _≤_, _<_}
 use native.Mathlib.Omega.{arith}
 use lib.Dec.{eqb}
-use lib.ListN.{length, getD, length-append, length-map}
+use lib.ListN.{length, getD, length-map}
 use borrow.Author.Tests.{eqb-true, eqb-false, ne-eqb}
 use Rattle.grammar.specs.Bytes.{Bytes}
-use Rattle.grammar.specs.Token.{closing, keywordIn, keywordEnd}
 use Rattle.grammar.specs.Operator.{Table}
-use Rattle.grammar.specs.Span.{Item, pair, scope, itemTokens, items}
+use Rattle.grammar.specs.Span.{Item, itemTokens, items}
 use Rattle.grammar.specs.SpanTree.{SpanTree}
 use Rattle.grammar.specs.Search.{treeOfSpan}
 use Rattle.grammar.specs.Blocks.{Span, bodyTable, itemSpans, allItemSpans, spans, firstWithout}
 use Rattle.grammar.proofs.NodeCount.{contentsTotal}
-use Rattle.nesting.proofs.PairedItems.{length-range, items-done, items-content, items-bracket, items-block}
+use Rattle.nesting.proofs.PairedItems.{behind-pair, behind-scope, length-range, items-done, items-content, items-bracket, items-block}
 use Rattle.layout.specs.Filled.{itemNumbers}
 use Rattle.search.specs.Slots.{slotOf, partCode, noTree}
 use Rattle.search.proofs.Bridge.{AllKnown, span-slots}
@@ -108,8 +107,7 @@ module _ (A : Arrays) (text : Bytes) where
   item-spans-judged zero (brackets c q w l m y s p r) h = absurd (omega arith)
   item-spans-judged (suc k) (brackets {T} {i} {to} c q w l m y s p r) h =
       let ts = tokens A text (suc i) c in
-      let behind : i + length (itemTokens (pair ts)) ≡ suc c
-      = omega (arith, length-append ts (closing ∷ []), length-range text (A .kinds) (A .starts) (A .sizes) (suc i) c) in
+      let behind = behind-pair text (A .kinds) (A .starts) (A .sizes) i c l in
       rw (
         items-bracket text (A .kinds) (A .starts) (A .sizes) i c to q l m y (agrees-paired A text p),
         openers-bracket (A .kinds) i c to l m q y,
@@ -120,14 +118,7 @@ module _ (A : Arrays) (text : Bytes) where
       let ds = tokens A text (suc i) c in
       let ts = tokens A text (suc c) e in
       let at : suc (i + length ds) ≡ c = omega (arith, length-range text (A .kinds) (A .starts) (A .sizes) (suc i) c) in
-      let behind : i + length (itemTokens (scope ds ts)) ≡ suc e
-      = omega (
-        arith,
-        length-append (ds ++ keywordIn ∷ ts) (keywordEnd ∷ []),
-        length-append ds (keywordIn ∷ ts),
-        length-range text (A .kinds) (A .starts) (A .sizes) (suc i) c,
-        length-range text (A .kinds) (A .starts) (A .sizes) (suc c) e,
-      ) in
+      let behind = behind-scope text (A .kinds) (A .starts) (A .sizes) i c e l m in
       rw (
         items-block text (A .kinds) (A .starts) (A .sizes) i c e to q l m n y z f (agrees-paired A text p),
         openers-block (A .kinds) i c e to l m n q y z f,

@@ -2,13 +2,13 @@
 use mathlib.Core.Path.{_≡_, refl, sym, ap, _∙_}
 use mathlib.Core.Bool.{Bool, true, false}
 use mathlib.Core.Option.{none, some}
-use mathlib.Core.List.{List, [], _∷_, _++_}
+use mathlib.Core.List.{List, [], _∷_}
 use Prim.Native.Nat.{ℕ, zero, suc, _+_, _-_, _≤_, _<_}
 use native.Mathlib.Omega.{arith}
 use lib.ListN.{length, getD, take, drop, length-append, length-take, length-drop}
 use borrow.Author.Tests.{eq-eqb, ne-eqb}
 use Rattle.grammar.specs.Bytes.{Bytes}
-use Rattle.grammar.specs.Token.{Token, symbol, number, quoted, closing, keywordIn, keywordEnd}
+use Rattle.grammar.specs.Token.{Token, symbol, number, quoted}
 use Rattle.grammar.specs.Operator.{Table, role, hasRole, inForce}
 use Rattle.grammar.specs.Declaration.{declarations, allTokens}
 use Rattle.grammar.specs.Span.{Item, single, pair, scope, itemTokens, items}
@@ -18,7 +18,7 @@ use Rattle.grammar.specs.Tree.{leaf}
 use Rattle.grammar.specs.Nodes.{nodeWords, leafKind, charactersOffset, characters, words}
 use Rattle.grammar.proofs.ItemsNested.{allItemTokens}
 use Rattle.nesting.specs.Paired.{Paired, done, content, bracket, block}
-use Rattle.nesting.proofs.PairedItems.{length-range, items-done, items-content, items-bracket, items-block}
+use Rattle.nesting.proofs.PairedItems.{behind-pair, behind-scope, items-done, items-content, items-bracket, items-block}
 use Rattle.grammar.specs.SpanTree.{isOperand, isOperandToken}
 use Rattle.grammar.specs.Search.{symbolAt, operatorAt}
 use Rattle.search.specs.Slots.{slotOf}
@@ -85,7 +85,7 @@ module _ (A : Arrays) (text : Bytes) where
       rw (items-bracket text (A .kinds) (A .starts) (A .sizes) i c to k l m y (agrees-paired p))
       (fit-next T i (suc c) to (pair ts) (items (tokens A text (suc c) to)) s
       (record { close = c; isOpening = k; closes = w; before = l; inside = refl; agrees = p })
-      (omega (arith, length-append ts (closing ∷ []), length-range text (A .kinds) (A .starts) (A .sizes) (suc i) c))
+      (behind-pair text (A .kinds) (A .starts) (A .sizes) i c l)
       (fitting q))
   fitting (blocks {T} {i} {to} c e k w v l m n y z f s d p q) =
       let ds = tokens A text (suc i) c in
@@ -105,13 +105,7 @@ module _ (A : Arrays) (text : Bytes) where
         inside = refl;
         agrees = p;
       })
-      (omega (
-        arith,
-        length-append (ds ++ keywordIn ∷ ts) (keywordEnd ∷ []),
-        length-append ds (keywordIn ∷ ts),
-        length-range text (A .kinds) (A .starts) (A .sizes) (suc i) c,
-        length-range text (A .kinds) (A .starts) (A .sizes) (suc c) e,
-      ))
+      (behind-scope text (A .kinds) (A .starts) (A .sizes) i c e l m)
       (fitting q))
 
   pub agrees-fit : {T : Table} {i to : ℕ} → Agrees A text T i to → AllFit T i (items (tokens A text i to))
