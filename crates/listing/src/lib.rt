@@ -1,0 +1,139 @@
+// Prints what reading gives, in document 01's format: the answer, then a line for each node.
+use libc::STDOUT_FILENO;
+use reader::Answer;
+ghost use mathlib.Core.List.{[], _∷_};
+ghost use Prim.Native.Nat.{_+_, _*_, _≤_, _<_};
+ghost use lib.ListN.{length, drop, getD};
+ghost use Rattle.grammar.specs.Listing.{field, kindNames, nodeLines};
+ghost use Rattle.listing.specs.Lines.{spelled, answerText, Put};
+
+// Puts `part` behind the first `n` bytes of a line, and answers how many bytes the line then has.
+fn put(line: &mut [u8; 128], n: usize, part: &[u8]) -> usize
+    requires { ⌜ n + length (now part) ≤ 128 ⌝ }
+    ensures { λ r. ⌜ Put (now (line .entry)) n (now (part .entry)) (now (line .exit)) r ⌝ }
+{
+    let mut i: usize = 0;
+    while i < part.len() {
+        line[n + i] = part[i];
+        i += 1;
+    }
+    n + i
+}
+
+// Puts a number, of at most 20 digits, into a line.
+fn put_number(line: &mut [u8; 128], n: usize, v: u64) -> usize
+    requires { ⌜ n + 20 ≤ 128 ⌝ }
+    ensures { λ r. ⌜ Put (now (line .entry)) n (spelled v) (now (line .exit)) r ⌝ }
+    ensures { λ r. ⌜ r ≤ n + 20 ⌝ }
+{
+    let mut digits = [0u8; 20];
+    let k = io::decimal(v, &mut digits);
+    put(line, n, &digits[..k])
+}
+
+// Puts a number with a space before it into a line.
+fn put_field(line: &mut [u8; 128], n: usize, v: u32) -> usize
+    requires { ⌜ n + 21 ≤ 128 ⌝ }
+    ensures { λ r. ⌜ Put (now (line .entry)) n (field v) (now (line .exit)) r ⌝ }
+    ensures { λ r. ⌜ r ≤ n + 21 ⌝ }
+{
+    let m = put(line, n, b" ");
+    put_number(line, m, v as u64)
+}
+
+// Puts the word of a kind, with a space before it, into a line.
+fn put_kind(line: &mut [u8; 128], n: usize, kind: u32) -> usize
+    requires { ⌜ n + 8 ≤ 128 ⌝ }
+    ensures { λ r. ⌜ Put (now (line .entry)) n (32 ∷ getD kindNames kind []) (now (line .exit)) r ⌝ }
+    ensures { λ r. ⌜ r ≤ n + 8 ⌝ }
+{
+    let m = put(line, n, b" ");
+    match kind {
+        1 => put(line, m, b"name"),
+        2 => put(line, m, b"number"),
+        3 => put(line, m, b"prefix"),
+        4 => put(line, m, b"infix"),
+        5 => put(line, m, b"postfix"),
+        6 => put(line, m, b"bracket"),
+        7 => put(line, m, b"block"),
+        _ => m,
+    }
+}
+
+// Puts the answer into a line.
+fn put_answer(line: &mut [u8; 128], a: Answer) -> usize
+    ensures { λ r. ⌜ Put (now (line .entry)) 0 (answerText a) (now (line .exit)) r ⌝ }
+    ensures { λ r. ⌜ r < 128 ⌝ }
+{
+    if a.number == 0 {
+        let n = put(line, 0, b"read ");
+        return put_number(line, n, a.count as u64);
+    }
+    let n = put(line, 0, b"refused ");
+    let m = put_number(line, n, a.number as u64);
+    let k = put(line, m, b" at ");
+    put_number(line, k, a.offset as u64)
+}
+
+// Puts the line of node number `i`, with its line end, into a line.
+fn put_node(line: &mut [u8; 128], nodes: &[u32; 5120], i: usize) -> usize
+    requires { ⌜ i < 1024 ⌝ }
+    ensures { λ r. ⌜ Put (now (line .entry)) 0 (nodeLines 1 i (drop (i * 5) (now (nodes .entry)))) (now (line .exit)) r ⌝ }
+    ensures { λ r. ⌜ r ≤ 128 ⌝ }
+{
+    let w = i * 5;
+    let n = put_number(line, 0, i as u64);
+    let n = put_kind(line, n, nodes[w]);
+    let n = put_field(line, n, nodes[w + 1]);
+    let n = put_field(line, n, nodes[w + 2]);
+    let n = put_field(line, n, nodes[w + 3]);
+    let n = put_field(line, n, nodes[w + 4]);
+    put(line, n, b"\n")
+}
+
+// Writes the answer, with no line end.
+pub fn print_answer(a: Answer) {
+    let mut line = [0u8; 128];
+    let n = put_answer(&mut line, a);
+    io::write_all(STDOUT_FILENO, &line[..n]);
+}
+
+// Writes the answer and a line end.
+fn print_answer_line(a: Answer) {
+    let mut line = [0u8; 128];
+    let n = put_answer(&mut line, a);
+    let m = put(&mut line, n, b"\n");
+    io::write_all(STDOUT_FILENO, &line[..m]);
+}
+
+// Writes the line of node number `i`.
+fn print_node(nodes: &[u32; 5120], i: usize)
+    requires { ⌜ i < 1024 ⌝ }
+{
+    let mut line = [0u8; 128];
+    let n = put_node(&mut line, nodes, i);
+    io::write_all(STDOUT_FILENO, &line[..n]);
+}
+
+// Writes the answer and a line for each node that was read.
+fn print_reading(a: Answer, nodes: &[u32; 5120])
+    requires { ⌜ 5 * a .count ≤ 5120 ⌝ }
+{
+    print_answer_line(a);
+    if a.number != 0 {
+        return;
+    }
+    let count = a.count;
+    let mut i: usize = 0;
+    while i < count {
+        print_node(nodes, i);
+        i += 1;
+    }
+}
+
+// Reads a text into a table of 1,024 nodes, which is enough for every text, and prints the reading.
+pub fn read_and_print(text: &[u8]) {
+    let mut nodes = [0u32; 5120];
+    let a = reader::read(text, &mut nodes);
+    print_reading(a, &nodes);
+}
