@@ -68,19 +68,19 @@ module _ (text : Bytes) (N N′ : List ℕ) (a : Answer) (h : Reads text N N′ 
               let s = ap (readInto text N) e in
               k r e (same-number ∙ ap (λ r. r .answer .number) s ∙ rw (t, readInto)) (leb-false _ _ t)
 
-  -- Demand 1. "a reading, or one of the thirteen numbered refusals with its place": 13 is not one of reading's.
+  -- Demand 1. Every call gives a reading or one of the numbered refusals; 13 is not one of reading's.
   pub numbers-known : a .number ≤ 12
   numbers-known = omega (arith, same-number, read-proper text N .known)
 
-  -- "a refusal changes no word or byte of the lent buffers"
+  -- A refusal changes no word of the table.
   pub refusal-changes-nothing : (a .number ≡ 0 → ⊥) → (N′ ≡ N) × (a .count ≡ 0)
   refusal-changes-nothing f =
       let p = read-proper text N in
       let g : G.read text N .answer .number ≡ 0 → ⊥ = λ e. f (same-number ∙ e) in
       (same-table ∙ p .unchanged g, same-count ∙ p .nothingCounted g)
 
-  -- Demand 2. "A reading is a tree of that text's own tokens in their order, every operand admitted by the level and side rules, under the
-  -- declarations in force there": the words of its nodes stand in the table, and there is no other tree.
+  -- Demand 2. A reading is a tree of the text's own tokens in their order, every operand admitted, under the operators in force there;
+  -- the words of its nodes stand in the table, and there is no other tree.
   pub reading-is-tree :
       a .number ≡ 0
       → (r : Reading) × Past text (r .tokens) × IsTree start (tokensOf (r .tokens)) (r .tree)
@@ -92,7 +92,7 @@ module _ (text : Bytes) (N N′ : List ℕ) (a : Answer) (h : Reads text N N′ 
       (λ r e q c t y. let i = reading-tree text r e in (r, i .0, i .1, reading-only text r e, c, t))
       (λ r e q l. absurd (omega arith))
 
-  -- Demand 3. "a text past checks 1 to 10 is refused with 11 exactly when it has no tree", at its first span without one.
+  -- Demand 3. A text past checks 1 to 10 is refused with 11 exactly where it has no tree, at its first span without one.
   pub eleven :
       (a .number ≡ 11) ↔ ((ps : List Placed) × Past text ps × ((t : Tree) → IsTree start (tokensOf ps) t → ⊥))
   eleven = (
