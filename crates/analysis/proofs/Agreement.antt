@@ -27,7 +27,8 @@ use Rattle.nesting.proofs.PairedItems.{behind-pair, behind-scope, length-range,
 use Rattle.resolve.specs.Resolved.{numberOf, writtenRoles}
 use Rattle.resolve.proofs.SpanRoles.{contentsStart, RolesFrom, RolesIn, roles-of-spans}
 use Rattle.search.specs.Slots.{slot, operatorSlot, slotOf}
-use Rattle.tree.specs.Built.{Arrays, slotOfToken}
+use Rattle.tree.specs.Built.{slotOfToken}
+use Rattle.node.specs.NodeWords.{Arrays}
 use Rattle.tree.specs.Agreeing.{tokens, Stands, Agrees, ends, leaves, brackets, blocks}
 
 -- The numbers of the roles of one fixity.

@@ -32,8 +32,7 @@ use Rattle.table.specs.Entries.{Starting}
 use Rattle.table.specs.declared.Table as E
 use Rattle.resolve.specs.Resolved as Resolve
 use Rattle.resolve.specs.declared.Checked.{Checked}
-use Rattle.tree.specs.Built.{Arrays}
-use Rattle.tree.specs.Building.{arrays}
+use Rattle.node.specs.NodeWords.{Arrays, arrays}
 use Rattle.analysis.specs.declared.Analysis.{Analysis}
 use Rattle.analysis.specs.Analysed.{Tokenized, Matched, Resolved, offsetIn, Analysed}
 use Rattle.analysis.proofs.Agreement.{agreement}

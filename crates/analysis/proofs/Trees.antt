@@ -17,8 +17,8 @@ use Rattle.grammar.proofs.NodeCount.{contentsTotal, node-count}
 use Rattle.grammar.proofs.Spans.{firstWithout-none, spans-hang}
 use Rattle.grammar.proofs.Readings.{length-tokens, past-reads, nested-tokens}
 use Rattle.scan.proofs.Passed.{passed-quoted, passed-offset, passed-ascend}
-use Rattle.tree.specs.Built.{Arrays, slotOfToken}
-use Rattle.tree.specs.Building.{arrays}
+use Rattle.tree.specs.Built.{slotOfToken}
+use Rattle.node.specs.NodeWords.{Arrays, arrays}
 use Rattle.spans.specs.Judged.{spanNodes, judgedAt, judgedSpans, codedOpener, codedSpans, Checkable}
 use Rattle.spans.specs.declared.Spans.{Spans}
 use Rattle.spans.specs.declared.Spans.the-variants.{Trees, NoTree, NoTreeBehind}

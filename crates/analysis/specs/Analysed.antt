@@ -15,7 +15,7 @@ use Rattle.grammar.specs.Nodes.{count}
 use Rattle.grammar.specs.Answer.{Reading, tokensOf, offsetOf, longestText, readText}
 use Rattle.scan.specs.Tokens.{Stored}
 use Rattle.nesting.specs.Paired.{Paired}
-use Rattle.tree.specs.Built.{Arrays}
+use Rattle.node.specs.NodeWords.{Arrays}
 use Rattle.tree.specs.Building as Building
 use Rattle.tree.specs.Agreeing.{tokens, Agrees}
 use Rattle.analysis.specs.declared.Analysis.{Analysis}

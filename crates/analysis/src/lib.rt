@@ -7,7 +7,7 @@ use spans::Spans;
 use table::Table;
 ghost use mathlib.Core.Path.{_≡_};
 ghost use Prim.Native.Nat.{_≤_};
-ghost use Rattle.tree.specs.Building.{arrays};
+ghost use Rattle.node.specs.NodeWords.{arrays};
 ghost use Rattle.analysis.specs.Analysed.{offsetIn, Tokenized, Matched, Resolved, Analysed};
 
 // Number 0 with how many tokens and nodes there are, or the number and the place of a refusal.

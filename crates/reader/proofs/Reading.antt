@@ -20,7 +20,8 @@ use Rattle.grammar.proofs.RoundTrip.{few-nodes}
 use Rattle.grammar.proofs.RefusalNumbers.{between-number}
 use Rattle.grammar.proofs.Answers.{read-between}
 use Rattle.grammar.proofs.WordsOffsets.{words-offsets}
-use Rattle.tree.specs.Built.{Arrays, spanWords}
+use Rattle.tree.specs.Built.{spanWords}
+use Rattle.node.specs.NodeWords.{Arrays}
 use Rattle.tree.specs.Building.{over, Whole, Spannable, Written}
 use Rattle.tree.specs.Agreeing.{tokens}
 use Rattle.tree.proofs.TokenWords.{agrees-paired}

@@ -21,7 +21,8 @@ use Rattle.nesting.proofs.PairedItems.{behind-pair, behind-scope, length-range,
 use Rattle.layout.specs.Filled.{itemNumbers}
 use Rattle.search.specs.Slots.{slotOf, partCode, noTree}
 use Rattle.search.proofs.Bridge.{AllKnown, span-slots}
-use Rattle.tree.specs.Built.{Arrays, slotOfToken}
+use Rattle.tree.specs.Built.{slotOfToken}
+use Rattle.node.specs.NodeWords.{Arrays}
 use Rattle.tree.specs.Agreeing.{tokens, Agrees, ends, leaves, brackets, blocks}
 use Rattle.tree.proofs.TokenWords.{agrees-paired, agrees-known}
 use Rattle.tree.proofs.TreeWords.{agrees-slots}

@@ -12,8 +12,8 @@ use lib.ListN.{length, getD}
 use lib.Seq.{sets, length-sets}
 use Rattle.layout.specs.Filled.{numbersIn, itemNumbers, pick, Fillable, Filled}
 use Rattle.search.specs.Slots.{slotsIn, partCode, noTree, InRange, Hint}
-use Rattle.tree.specs.Built.{Arrays, slotOfToken}
-use Rattle.tree.specs.Building.{arrays}
+use Rattle.tree.specs.Built.{slotOfToken}
+use Rattle.node.specs.NodeWords.{Arrays, arrays}
 use Rattle.tree.proofs.Entries.{slots-filled}
 use Rattle.spans.specs.declared.Spans.the-variants.{Trees, NoTree, NoTreeBehind}
 use Rattle.spans.specs.Judged.{opensSpan, openersIn, Judged, spanNodes, judgedAt, judgedSpans, codedOpener, codedSpans, Checkable}

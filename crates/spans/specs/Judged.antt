@@ -8,7 +8,8 @@ use lib.ListN.{length, getD}
 use Rattle.nesting.specs.Paired.{Paired}
 use Rattle.layout.specs.Filled.{itemNumbers}
 use Rattle.search.specs.Slots.{partCode, noTree}
-use Rattle.tree.specs.Built.{Arrays, slotOfToken}
+use Rattle.tree.specs.Built.{slotOfToken}
+use Rattle.node.specs.NodeWords.{Arrays}
 use Rattle.spans.specs.declared.Spans.{Spans}
 use Rattle.spans.specs.declared.Spans.the-variants.{Trees, NoTree, NoTreeBehind}
 

@@ -5,7 +5,7 @@ ghost use mathlib.Core.Path.{_≡_};
 ghost use mathlib.Core.List.{[]};
 ghost use Prim.Native.Nat.{_≤_};
 ghost use Rattle.layout.specs.Filled.{Fillable};
-ghost use Rattle.tree.specs.Building.{arrays};
+ghost use Rattle.node.specs.NodeWords.{arrays};
 ghost use Rattle.spans.specs.Judged.{opensSpan, spanNodes, judgedSpans, codedSpans, Checkable};
 
 // Every span has a tree, and these have so many nodes in all; or the first span without one is the whole text, or the one that begins

@@ -9,7 +9,7 @@ use Rattle.nesting.specs.Paired.{Paired, done, content, bracket, block}
 use Rattle.nesting.proofs.PairedCases.{paired-bracket, paired-block}
 use Rattle.layout.specs.Filled.{behindItem, itemNumbers}
 use Rattle.layout.proofs.Laws.{behind-content, behind-bracket, behind-block, met, items-end, items-step}
-use Rattle.tree.specs.Built.{Arrays}
+use Rattle.node.specs.NodeWords.{Arrays}
 use Rattle.tree.specs.Building.{tokensOf, cover, Placed, SpanAt, ItemAt, Items, none, more}
 
 module _ (A : Arrays) where

@@ -7,7 +7,8 @@ use lib.ListN.{length, take, drop, getD, length-take, length-drop, length-map, d
 use lib.Seq.{sets, sets-eq, take-take, take-nil, drop-drop, drop-cons, getD-take, getD-drop, take-at, drop-at, length-take-le}
 use Rattle.layout.specs.Filled.{pick}
 use Rattle.search.specs.Slots.{slot, slotsIn}
-use Rattle.tree.specs.Built.{Arrays, slotOfToken}
+use Rattle.tree.specs.Built.{slotOfToken}
+use Rattle.node.specs.NodeWords.{Arrays}
 use Rattle.tree.specs.Building.{entries}
 
 take-drop : (k n : ℕ) (l : List ℕ) → take k (drop n l) ≡ drop n (take (n + k) l)

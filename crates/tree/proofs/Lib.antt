@@ -1,4 +1,3 @@
-pub mod Nodes
 pub mod Over
 pub mod Covers
 pub mod Words

@@ -10,8 +10,9 @@ use Rattle.grammar.specs.Nodes.{nodeWords}
 use Rattle.nesting.proofs.PairedCases.{paired-ordered}
 use Rattle.layout.specs.Filled.{itemNumbers, pick, Fillable, Filled}
 use Rattle.search.specs.Slots.{slotsIn}
-use Rattle.tree.specs.Built.{Arrays, slotOfToken, tokenNode, bracketNode, blockNode, spanWords}
-use Rattle.tree.specs.Building.{arrays, over, entries, tokensOf, cover, partWords, leafWords, Items, Spannable, Buildable, Leafable, Written, Whole}
+use Rattle.tree.specs.Built.{slotOfToken, spanWords}
+use Rattle.node.specs.NodeWords.{Arrays, tokenNode, bracketNode, blockNode, arrays}
+use Rattle.tree.specs.Building.{over, entries, tokensOf, cover, partWords, leafWords, Items, Spannable, Buildable, Leafable, Written, Whole}
 use Rattle.tree.proofs.Over.{over-length, over-node}
 use Rattle.tree.proofs.Covers.{tokens-bracket, tokens-block, cover-least, spread}
 use Rattle.tree.proofs.Words.{span-part, span-bound, token-size, leaf-bracket, leaf-bracket-length, leaf-block, leaf-block-length, leaf-token}

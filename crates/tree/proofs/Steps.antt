@@ -16,8 +16,9 @@ use Rattle.search.proofs.Ranges.{range-length, range-take, range-drop}
 use Rattle.search.proofs.Found.{root-from-zero}
 use Rattle.search.proofs.Roots.{range-size}
 use Rattle.search.proofs.PartRanges.{root-begins, hint-before, hint-after}
-use Rattle.tree.specs.Built.{Arrays, slotOfToken, operatorNode, operatorWords}
-use Rattle.tree.specs.Building.{arrays, over, entries, tokensOf, cover, partWords, leafWords, ItemAt, Items, more, Buildable, Leafable, Written, Whole}
+use Rattle.tree.specs.Built.{slotOfToken, operatorWords}
+use Rattle.node.specs.NodeWords.{Arrays, operatorNode, arrays}
+use Rattle.tree.specs.Building.{over, entries, tokensOf, cover, partWords, leafWords, ItemAt, Items, more, Buildable, Leafable, Written, Whole}
 use Rattle.tree.proofs.Over.{over-none, over-length, over-node, lent-part, over-lent}
 use Rattle.tree.proofs.Covers.{cover-more, tokens-some, cover-least, items-take, items-drop, item-of, cover-split, length-split}
 use Rattle.tree.proofs.Words.{operator-size, rootOf, operator-length, part-none, part-bound, part-item, part-operator, operator-words}

@@ -23,7 +23,8 @@ use Rattle.grammar.specs.SpanTree.{isOperand, isOperandToken}
 use Rattle.grammar.specs.Search.{symbolAt, operatorAt}
 use Rattle.search.specs.Slots.{slotOf}
 use Rattle.search.proofs.Bridge.{Known, AllKnown}
-use Rattle.tree.specs.Built.{Arrays, slotOfToken, tokenNode}
+use Rattle.tree.specs.Built.{slotOfToken}
+use Rattle.node.specs.NodeWords.{Arrays, tokenNode}
 use Rattle.tree.specs.Agreeing.{tokens, token, Stands, Agrees, ends, leaves, brackets, blocks}
 
 module _ (A : Arrays) (text : Bytes) where

@@ -32,7 +32,8 @@ use Rattle.layout.specs.Filled.{itemNumbers}
 use Rattle.layout.proofs.Items.{numbers-items}
 use Rattle.search.specs.Slots.{slotOf, rootSlot}
 use Rattle.search.proofs.Bridge.{root-slots, root-slots-some}
-use Rattle.tree.specs.Built.{Arrays, slotOfToken, bracketNode, blockNode, operatorNode, itemWords, operatorWords, rangeIn, spanWords}
+use Rattle.tree.specs.Built.{slotOfToken, itemWords, operatorWords, rangeIn, spanWords}
+use Rattle.node.specs.NodeWords.{Arrays, bracketNode, blockNode, operatorNode}
 use Rattle.tree.proofs.Words.{item-bracket, item-block, item-token, range-item, range-operator}
 use Rattle.tree.specs.Agreeing.{tokens, token, Agrees}
 use Rattle.tree.proofs.TokenWords.{agrees-paired, PairFits, ScopeFits, ItemFits, AllFit, agrees-fit, agrees-length, leaf-words, symbol-length}

@@ -13,7 +13,8 @@ use Rattle.grammar.specs.Nodes.{nodeWords}
 use Rattle.nesting.proofs.PairedCases.{paired-ordered}
 use Rattle.layout.specs.Filled.{itemNumbers}
 use Rattle.search.specs.Slots.{rootSlot}
-use Rattle.tree.specs.Built.{Arrays, slotOfToken, tokenNode, bracketNode, blockNode, operatorNode, itemWords, operatorWords, rangeIn, spanWords}
+use Rattle.tree.specs.Built.{slotOfToken, itemWords, operatorWords, rangeIn, spanWords}
+use Rattle.node.specs.NodeWords.{Arrays, tokenNode, bracketNode, blockNode, operatorNode}
 use Rattle.tree.specs.Building.{tokensOf, cover, partWords, leafWords, SpanAt, ItemAt, Items, none, more}
 use Rattle.tree.proofs.Covers.{cover-more, tokens-some, items-take, items-drop, item-of, cover-split, Spread, spread, tokens-bracket, tokens-block}
 

@@ -13,7 +13,8 @@ use Rattle.grammar.specs.Coded.{tokenAt, tokensFrom}
 use Rattle.grammar.specs.Blocks.{bodyTable}
 use Rattle.nesting.specs.Paired.{IsContentKind, IsQuietKind}
 use Rattle.search.specs.Slots.{slotOf}
-use Rattle.tree.specs.Built.{Arrays, slotOfToken}
+use Rattle.tree.specs.Built.{slotOfToken}
+use Rattle.node.specs.NodeWords.{Arrays}
 
 abbrev pub tokens : Arrays → Bytes → ℕ → ℕ → List Token
 tokens A text i to = tokensFrom text (A .kinds) (A .starts) (A .sizes) i (to - i)

@@ -7,10 +7,8 @@ use lib.ListN.{length, take, drop, getD}
 use Rattle.nesting.specs.Paired.{Paired}
 use Rattle.layout.specs.Filled.{behindItem}
 use Rattle.search.specs.Slots.{slotsIn, Hint}
-use Rattle.tree.specs.Built.{Arrays, slotOfToken, itemWords, rangeIn, spanWords}
-
-abbrev pub arrays : List ℕ → List ℕ → List ℕ → List ℕ → List ℕ → List ℕ → List ℕ → Arrays
-arrays K S Z C P I Q = record { kinds = K; starts = S; sizes = Z; closes = C; prefixes = P; infixes = I; postfixes = Q }
+use Rattle.tree.specs.Built.{slotOfToken, itemWords, rangeIn, spanWords}
+use Rattle.node.specs.NodeWords.{Arrays}
 
 -- Words over the front of a table.
 unfoldable pub over : List ℕ → List ℕ → List ℕ
@@ -27,23 +25,6 @@ tokensOf A i = behindItem (A .kinds) (A .closes) i - i
 unfoldable pub cover : Arrays → List ℕ → ℕ
 cover A [] = 0
 cover A (i ∷ ns) = tokensOf A i + cover A ns
-
--- What writing a node asks: node number `n` stands in the table `N`; a node number is small enough; of a token its arrays and, if it is
--- quoted, its two quotes; of a block that its `let` does not start behind the end of its `in`.
-abbrev pub NodeIn : ℕ → List ℕ → Type 0
-NodeIn n N = n * 5 + 5 ≤ length N
-
-abbrev pub FewNodes : ℕ → Type 0
-FewNodes n = n ≤ 4096
-
-abbrev pub TokenIn : List ℕ → List ℕ → ℕ → List ℕ → Type 0
-TokenIn K Z i N = (i < 1024) × (getD K i 0 ≡ 3 → 2 ≤ getD Z i 0) × (5 ≤ length N)
-
-abbrev pub BlockIn : List ℕ → ℕ → ℕ → ℕ → ℕ → List ℕ → Type 0
-BlockIn S i c base n N = (i < 1024) × (c < 1024) × (getD S i 0 ≤ getD S c 0 + 2) × FewNodes (base + n) × NodeIn n N
-
-abbrev pub TokenNumber : ℕ → Type 0
-TokenNumber i = i < 1024
 
 -- The words of items, and of one item that is no operator.
 unfoldable pub partWords : Arrays → List ℕ → ℕ → List ℕ

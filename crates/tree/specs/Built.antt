@@ -1,52 +1,18 @@
 -- The words that the builder writes, over the numbers of tokens and items. What they are for a text with a tree is a law elsewhere.
-use mathlib.Core.Bool.{Bool, true, false, not}
+use mathlib.Core.Bool.{true, false, not}
 use mathlib.Core.List.{List, [], _∷_, _++_, map}
-use Prim.Native.Nat.{ℕ, zero, suc, pred, _+_, _-_, _/_}
+use Prim.Native.Nat.{ℕ, zero, suc, _+_, _-_, _/_}
 use lib.Dec.{leb, eqb}
 use lib.ListN.{length, take, drop, getD}
 use Rattle.grammar.specs.Bytes.{isEmpty}
-use Rattle.grammar.specs.Nodes.{nodeWords}
+use Rattle.node.specs.NodeWords.{Arrays, tokenNode, bracketNode, blockNode, operatorNode}
 use Rattle.layout.specs.Filled.{itemNumbers}
 use Rattle.search.specs.Slots.{Slot, rootSlot}
-
--- Kinds, offsets, lengths and closers of tokens, and the numbers of their roles.
-pub record Arrays : Type 0 where
-  pub kinds : List ℕ
-  pub starts : List ℕ
-  pub sizes : List ℕ
-  pub closes : List ℕ
-  pub prefixes : List ℕ
-  pub infixes : List ℕ
-  pub postfixes : List ℕ
 
 module _ (A : Arrays) where
   -- The slot of token number `j`.
   unfoldable pub slotOfToken : ℕ → Slot
   slotOfToken j = record { pre = getD (A .prefixes) j 0; inf = getD (A .infixes) j 0; post = getD (A .postfixes) j 0 }
-
-  -- A node of one token that is no operator: kind 1 name, 2 number; a quoted name's characters stand behind its quote.
-  unfoldable pub tokenNode : ℕ → List ℕ
-  tokenNode i =
-      elim (eqb (getD (A .kinds) i 0) 3) [
-        | true ↦ nodeWords 1 0 0 (getD (A .starts) i 0 + 1) (getD (A .sizes) i 0 - 2)
-        | false ↦ elim (eqb (getD (A .kinds) i 0) 2) [
-          | true ↦ nodeWords 2 0 0 (getD (A .starts) i 0) (getD (A .sizes) i 0)
-          | false ↦ nodeWords 1 0 0 (getD (A .starts) i 0) (getD (A .sizes) i 0)
-        ]
-      ]
-
-  unfoldable pub bracketNode : ℕ → List ℕ
-  bracketNode n = nodeWords 6 (pred n) 0 0 0
-
-  unfoldable pub blockNode : ℕ → ℕ → List ℕ
-  blockNode i n =
-      nodeWords 7 (pred n) 0 (getD (A .starts) i 0) (getD (A .starts) (getD (A .closes) i 0) 0 + 2 - getD (A .starts) i 0)
-
-  -- An operator's node, token number `i`, with the nodes of its operands ending before numbers `m` (left) and `n` (right).
-  unfoldable pub operatorNode : ℕ → Bool → Bool → ℕ → ℕ → List ℕ
-  operatorNode i true true m n = nodeWords 4 (pred m) (pred n) (getD (A .starts) i 0) (getD (A .sizes) i 0)
-  operatorNode i true false m n = nodeWords 5 (pred n) 0 (getD (A .starts) i 0) (getD (A .sizes) i 0)
-  operatorNode i false r m n = nodeWords 3 (pred n) 0 (getD (A .starts) i 0) (getD (A .sizes) i 0)
 
   -- An item that is no operator, token number `i`, from node number `base` on; `inner` gives the words of items.
   unfoldable pub itemWords : (List ℕ → ℕ → List ℕ) → ℕ → ℕ → List ℕ
@@ -54,13 +20,13 @@ module _ (A : Arrays) where
       elim (eqb (getD (A .kinds) i 0) 4) [
         | true ↦
             let w = inner (itemNumbers (A .kinds) (A .closes) (suc i) (getD (A .closes) i 0)) base in
-            w ++ bracketNode (base + length w / 5)
+            w ++ bracketNode A (base + length w / 5)
         | false ↦ elim (eqb (getD (A .kinds) i 0) 7) [
           | true ↦
               let c = getD (A .closes) i 0 in
               let w = inner (itemNumbers (A .kinds) (A .closes) (suc c) (getD (A .closes) c 0)) base in
-              w ++ blockNode i (base + length w / 5)
-          | false ↦ tokenNode i
+              w ++ blockNode A i (base + length w / 5)
+          | false ↦ tokenNode A i
         ]
       ]
 
@@ -69,7 +35,7 @@ module _ (A : Arrays) where
   operatorWords inner ns at base =
       let l = inner (take at ns) base in
       let r = inner (drop (suc at) ns) (base + length l / 5) in
-      l ++ (r ++ operatorNode (getD ns at 0) (not (eqb at 0)) (not (isEmpty (drop (suc at) ns))) (base + length l / 5) (base + length l / 5 + length r / 5))
+      l ++ (r ++ operatorNode A (getD ns at 0) (not (eqb at 0)) (not (isEmpty (drop (suc at) ns))) (base + length l / 5) (base + length l / 5 + length r / 5))
 
   -- The words of the items `ns` of a part of a span, from node number `base` on. The first number is fuel: more than the tokens.
   unfoldable pub rangeIn : ℕ → List ℕ → ℕ → List ℕ

@@ -1,12 +1,12 @@
 // The nodes of a span: the builder calls itself on the items left and right of the root.
-use crate::node;
 use layout::fill;
 ghost use mathlib.Core.Path.{_≡_};
 ghost use Prim.Native.Nat.{_<_};
 ghost use lib.ListN.{getD};
 ghost use Rattle.search.specs.Slots.{precedenceOf, couldBeRightAt};
 ghost use Rattle.tree.specs.Built.{spanWords};
-ghost use Rattle.tree.specs.Building.{arrays, entries, partWords, leafWords, Spannable, Buildable, Leafable, Written};
+ghost use Rattle.tree.specs.Building.{entries, partWords, leafWords, Spannable, Buildable, Leafable, Written};
+ghost use Rattle.node.specs.NodeWords.{arrays};
 
 fn widened(x: u16) -> usize
     ensures { λ r. ⌜ r ≡ x ⌝ }

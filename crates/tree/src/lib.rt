@@ -1,3 +1,2 @@
 // The node table of a text whose spans have trees.
 pub mod build;
-pub mod node;

@@ -4,7 +4,7 @@ use mathlib.Core.List.{[]}
 use Prim.Native.Nat.{_-_}
 use native.Mathlib.Omega.{arith}
 use borrow.Author.Needs.{needs}
-use Rattle.tree.specs.Building.{arrays}
+use Rattle.node.specs.NodeWords.{arrays}
 use Rattle.spans.proofs.Steps.{
   Checking,
   text-fills,

@@ -5,7 +5,8 @@ use mathlib.Core.Path.{refl, ap}
 use native.Mathlib.Omega.{arith}
 use lib.ListN.{getD}
 use borrow.Author.Needs.{needs}
-use Rattle.tree.specs.Building.{arrays, entries, tokensOf, cover}
+use Rattle.tree.specs.Building.{entries, tokensOf, cover}
+use Rattle.node.specs.NodeWords.{arrays}
 use Rattle.tree.proofs.Steps.{
   build-none,
   leaf-falls,
@@ -55,10 +56,10 @@ use Rattle.search.proofs.root.Reads as root-reads
 use Rattle.tree.proofs.build.precedence_at.Reads as precedence-at-reads
 use Rattle.tree.proofs.build.number.Reads as number-reads
 use Rattle.tree.proofs.build.right_at.Reads as right-at-reads
-use Rattle.tree.proofs.node.block.Reads as block-reads
-use Rattle.tree.proofs.node.bracket.Reads as bracket-reads
-use Rattle.tree.proofs.node.operator.Reads as operator-reads
-use Rattle.tree.proofs.node.token.Reads as token-reads
+use Rattle.node.proofs.block.Reads as block-reads
+use Rattle.node.proofs.bracket.Reads as bracket-reads
+use Rattle.node.proofs.operator.Reads as operator-reads
+use Rattle.node.proofs.token.Reads as token-reads
 use Rattle.tree.proofs.build.+build+build_span+leaf.{statement}
 use Rattle.tree.proofs.build.+build+build_span+leaf.Tie.{close}
 

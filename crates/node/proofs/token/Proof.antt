@@ -2,15 +2,15 @@
 use mathlib.Core.Path.{refl, ap}
 use Prim.Native.Nat.{_+_, _-_}
 use native.Mathlib.Omega.{arith}
-use Rattle.tree.proofs.Nodes.{put-words, token-quoted, token-number, token-name}
+use Rattle.node.proofs.Nodes.{put-words, token-quoted, token-number, token-name}
 use borrow.Author.Needs.{needs}
-use Rattle.tree.proofs.node.token.Statement.{statement}
-use Rattle.tree.proofs.node.token.Tie as tie
-use Rattle.tree.proofs.node.token.Reads as reads
-use Rattle.tree.proofs.node.token.Lts as lts
-use Rattle.tree.proofs.node.length_word.Reads as length-word-reads
-use Rattle.tree.proofs.node.offset_word.Reads as offset-word-reads
-use Rattle.tree.proofs.node.put.Reads as put-reads
+use Rattle.node.proofs.token.Statement.{statement}
+use Rattle.node.proofs.token.Tie as tie
+use Rattle.node.proofs.token.Reads as reads
+use Rattle.node.proofs.token.Lts as lts
+use Rattle.node.proofs.length_word.Reads as length-word-reads
+use Rattle.node.proofs.offset_word.Reads as offset-word-reads
+use Rattle.node.proofs.put.Reads as put-reads
 
 element-copy-out-kind : tie.Need-element-copy-out-kind
 element-copy-out-kind c = search needs

@@ -4,8 +4,8 @@ use native.Mathlib.Omega.{arith}
 use lib.ListN.{length-set}
 use borrow.Author.Needs.{needs}
 use Rattle.grammar.specs.Nodes.{nodeWords}
-use Rattle.tree.proofs.node.put.Statement.{statement}
-use Rattle.tree.proofs.node.put.Tie as tie
+use Rattle.node.proofs.put.Statement.{statement}
+use Rattle.node.proofs.put.Tie as tie
 
 mul-w : tie.Need-mul-w
 mul-w c = search needs

@@ -1,15 +1,15 @@
 -- The words are put together from what the callees answer, by the sides on which there is an operand.
 use mathlib.Core.Path.{refl}
-use Rattle.tree.proofs.Nodes.{put-words, operator-infix, operator-postfix, operator-prefix}
+use Rattle.node.proofs.Nodes.{put-words, operator-infix, operator-postfix, operator-prefix}
 use borrow.Author.Needs.{needs}
-use Rattle.tree.proofs.node.operator.Statement.{statement}
-use Rattle.tree.proofs.node.operator.Tie as tie
-use Rattle.tree.proofs.node.operator.Reads as reads
-use Rattle.tree.proofs.node.operator.Lts as lts
-use Rattle.tree.proofs.node.before.Reads as before-reads
-use Rattle.tree.proofs.node.length_word.Reads as length-word-reads
-use Rattle.tree.proofs.node.offset_word.Reads as offset-word-reads
-use Rattle.tree.proofs.node.put.Reads as put-reads
+use Rattle.node.proofs.operator.Statement.{statement}
+use Rattle.node.proofs.operator.Tie as tie
+use Rattle.node.proofs.operator.Reads as reads
+use Rattle.node.proofs.operator.Lts as lts
+use Rattle.node.proofs.before.Reads as before-reads
+use Rattle.node.proofs.length_word.Reads as length-word-reads
+use Rattle.node.proofs.offset_word.Reads as offset-word-reads
+use Rattle.node.proofs.put.Reads as put-reads
 
 mul-offset-word : tie.Need-mul-offset-word
 mul-offset-word c = search needs

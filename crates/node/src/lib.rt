@@ -5,8 +5,7 @@ ghost use Prim.Native.Nat.{pred, _+_, _-_, _*_, _<_};
 ghost use lib.ListN.{getD};
 ghost use lib.Seq.{sets};
 ghost use Rattle.grammar.specs.Nodes.{nodeWords};
-ghost use Rattle.tree.specs.Built.{tokenNode, bracketNode, operatorNode};
-ghost use Rattle.tree.specs.Building.{arrays, NodeIn, FewNodes, TokenIn, BlockIn, TokenNumber};
+ghost use Rattle.node.specs.NodeWords.{tokenNode, bracketNode, operatorNode, arrays, NodeIn, FewNodes, TokenIn, BlockIn, TokenNumber};
 
 // An offset and a length as words.
 fn offset_word(x: u16) -> u32

@@ -1,13 +1,13 @@
 -- The words are put together from what the callees answer.
 use mathlib.Core.Path.{refl}
-use Rattle.tree.specs.Built.{bracketNode}
+use Rattle.node.specs.NodeWords.{bracketNode}
 use borrow.Author.Needs.{needs}
-use Rattle.tree.proofs.node.bracket.Statement.{statement}
-use Rattle.tree.proofs.node.bracket.Tie as tie
-use Rattle.tree.proofs.node.bracket.Reads as reads
-use Rattle.tree.proofs.node.bracket.Lts as lts
-use Rattle.tree.proofs.node.before.Reads as before-reads
-use Rattle.tree.proofs.node.put.Reads as put-reads
+use Rattle.node.proofs.bracket.Statement.{statement}
+use Rattle.node.proofs.bracket.Tie as tie
+use Rattle.node.proofs.bracket.Reads as reads
+use Rattle.node.proofs.bracket.Lts as lts
+use Rattle.node.proofs.before.Reads as before-reads
+use Rattle.node.proofs.put.Reads as put-reads
 
 add-before : tie.Need-add-before
 add-before c = search needs

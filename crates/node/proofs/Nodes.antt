@@ -7,8 +7,7 @@ use lib.ListN.{getD}
 use lib.Seq.{sets}
 use borrow.Author.Tests.{eq-eqb, ne-eqb}
 use Rattle.grammar.specs.Nodes.{nodeWords}
-use Rattle.tree.specs.Built.{tokenNode, operatorNode}
-use Rattle.tree.specs.Building.{arrays}
+use Rattle.node.specs.NodeWords.{tokenNode, operatorNode, arrays}
 
 pub put-words : (N N′ w : List ℕ) (k kind a b o s a′ b′ o′ s′ : ℕ) → N′ ≡ sets N k (nodeWords kind a b o s)
     → a ≡ a′ → b ≡ b′ → o ≡ o′ → s ≡ s′ → w ≡ nodeWords kind a′ b′ o′ s′ → N′ ≡ sets N k w

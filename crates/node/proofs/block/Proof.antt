@@ -1,13 +1,13 @@
 -- The words are put together from what the callees answer.
 use mathlib.Core.Path.{refl}
 use borrow.Author.Needs.{needs}
-use Rattle.tree.proofs.node.block.Statement.{statement}
-use Rattle.tree.proofs.node.block.Tie as tie
-use Rattle.tree.proofs.node.block.Reads as reads
-use Rattle.tree.proofs.node.block.Lts as lts
-use Rattle.tree.proofs.node.before.Reads as before-reads
-use Rattle.tree.proofs.node.offset_word.Reads as offset-word-reads
-use Rattle.tree.proofs.node.put.Reads as put-reads
+use Rattle.node.proofs.block.Statement.{statement}
+use Rattle.node.proofs.block.Tie as tie
+use Rattle.node.proofs.block.Reads as reads
+use Rattle.node.proofs.block.Lts as lts
+use Rattle.node.proofs.before.Reads as before-reads
+use Rattle.node.proofs.offset_word.Reads as offset-word-reads
+use Rattle.node.proofs.put.Reads as put-reads
 
 mul-offset-word : tie.Need-mul-offset-word
 mul-offset-word c = search needs
