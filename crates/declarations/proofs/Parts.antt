@@ -171,14 +171,14 @@ module _ (w : Bytes) (ts : List Token) where
 
 -- What the associativity's word says.
 module _ (f : ℕ) (w : Bytes) (ts : List Token) (a : ℕ) (g : a ≡ associativityNumber f w) where
-  pub side-other : a ≡ 0 → associativityPart (fixityOf f) (symbol w ∷ ts) ≡ unfit 1
+  pub allowed-other : a ≡ 0 → associativityPart (fixityOf f) (symbol w ∷ ts) ≡ unfit 1
   unfolding associativityPart
-  side-other z = rw (associativity-number f w .nothing (sym g ∙ z), associativityPart)
+  allowed-other z = rw (associativity-number f w .nothing (sym g ∙ z), associativityPart)
 
-  pub side-named :
+  pub allowed-named :
       (a ≡ 0 → ⊥) → associativityPart (fixityOf f) (symbol w ∷ ts) ≡ precedencePart (fixityOf f) (associativityOf a) ts
   unfolding associativityPart
-  side-named n =
+  allowed-named n =
       rw (associativity-number f w .found (λ z. n (g ∙ z)), associativityPart)
       (ap (λ a. precedencePart (fixityOf f) (associativityOf a) ts) (sym g))
 

@@ -45,7 +45,7 @@ record Parts (r : Roles) : Type 0 where
   prefixInfix : onePrecedenceTest (r Prefix) (r Infix) ≡ true
   infixPostfix : onePrecedenceTest (r Infix) (r Postfix) ≡ true
   prefixPostfix : onePrecedenceTest (r Prefix) (r Postfix) ≡ true
-  sides : lawfulAssociativities (r Prefix) (r Infix) (r Postfix) ≡ true
+  associativities : lawfulAssociativities (r Prefix) (r Infix) (r Postfix) ≡ true
 
 parts : (r : Roles) → lawful r ≡ true → Parts r
 unfolding lawful
@@ -60,7 +60,7 @@ parts r e =
       prefixInfix = and-left a b ab;
       infixPostfix = and-right a b ab;
       prefixPostfix = and-right (a && b) c abc;
-      sides = and-right (a && b && c) d e;
+      associativities = and-right (a && b && c) d e;
     }
 
 -- Condition 1 of two roles.
@@ -119,7 +119,7 @@ beside-sound :
     (r : Roles) → lawful r ≡ true → (a : Role) → r Infix ≡ some a → (c : Associativity) → a .associativity ≡ c
     → besideInfix c (r Prefix) (r Postfix) ≡ true
 unfolding lawfulAssociativities
-beside-sound r e a p c s = rw (p, s) at (parts r e .sides)
+beside-sound r e a p c s = rw (p, s) at (parts r e .associativities)
 
 beside-complete :
     (r : Roles) → Lawful r → (a : Role) → r Infix ≡ some a → (c : Associativity) → a .associativity ≡ c
@@ -132,9 +132,9 @@ beside-complete r l a p right s =
 beside-complete r l a p non s =
     and-intro (only-complete non (r Prefix) (l .infixNon a p s Prefix)) (only-complete non (r Postfix) (l .infixNon a p s Postfix))
 
-sides-complete : (r : Roles) → Lawful r → lawfulAssociativities (r Prefix) (r Infix) (r Postfix) ≡ true
+associativities-complete : (r : Roles) → Lawful r → lawfulAssociativities (r Prefix) (r Infix) (r Postfix) ≡ true
 unfolding lawfulAssociativities
-sides-complete r l = go (r Infix) refl
+associativities-complete r l = go (r Infix) refl
   where
     go : (x : Option Role) → r Infix ≡ x → lawfulAssociativities (r Prefix) x (r Postfix) ≡ true
     go none e = refl
@@ -181,7 +181,7 @@ lawful-sound r e = record { onePrecedence = equal; infixNon = besideNon; infixLe
 -- .. and complete.
 pub lawful-complete : (r : Roles) → Lawful r → lawful r ≡ true
 unfolding lawful
-lawful-complete r l = and-intro (and-intro (and-intro (equal Prefix Infix) (equal Infix Postfix)) (equal Prefix Postfix)) (sides-complete r l)
+lawful-complete r l = and-intro (and-intro (and-intro (equal Prefix Infix) (equal Infix Postfix)) (equal Prefix Postfix)) (associativities-complete r l)
   where
     equal : (f g : Fixity) → onePrecedenceTest (r f) (r g) ≡ true
     equal f g = precedence-complete (r f) (r g) (l .onePrecedence f g)

@@ -155,11 +155,11 @@ unfolding associativityNamed
 associativity-wanted w a =
     word-wanted associativityWord w left (word-wanted associativityWord w right (word-wanted associativityWord w non (λ e. cc)))
 
-side-wanted :
+allowed-wanted :
     (f : Fixity) (t : Token) (a : Associativity) → associativityFor f t ≡ some a
     → (t ≡ symbol (associativityWord a)) × (allowed f a ≡ true)
 unfolding associativityFor
-side-wanted f t a e =
+allowed-wanted f t a e =
     found no-some (symbolOf t) e λ w p q.
     found no-some (associativityNamed w) q λ b r s.
     tested no-some (allowed f b) s λ u v.
@@ -200,7 +200,7 @@ module _ {d : Declaration} {rest : List Token} where
   associativity-sound f (t ∷ ts) h =
       found no-parse (associativityFor f t) h λ a p q.
       let (c, m, r, s, u) = precedence-sound f a ts q in
-      let (v, w) = side-wanted f t a p in
+      let (v, w) = allowed-wanted f t a p in
       rw (← r) (cc, and-intro w u)
 
   first-sound :

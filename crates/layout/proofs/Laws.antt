@@ -174,3 +174,18 @@ module _ {K C P I Q : List ℕ} {from to first : ℕ} {M A B D M′ A′ B′ D�
         infixes = sym (rw s at (h .infixes));
         postfixes = sym (rw s at (h .postfixes));
       }
+
+-- A range has no more items than tokens.
+few-kept : (b : Bool) (i k : ℕ) (ns : List ℕ) → length ns ≤ k
+    → length {A = ℕ} (elim b as (λ x. List ℕ) [ true ↦ [] | false ↦ i ∷ ns ]) ≤ suc k
+few-kept true i k ns l = omega arith
+few-kept false i k ns l = omega arith
+
+few-in : (k : ℕ) (K C : List ℕ) (i to : ℕ) → length (numbersIn k K C i to) ≤ k
+unfolding numbersIn
+few-in zero K C i to = omega arith
+few-in (suc k) K C i to = few-kept (leb to i) i k _ (few-in k K C _ to)
+
+pub few-items : (K C : List ℕ) (from to : ℕ) → length (itemNumbers K C from to) ≤ to - from
+unfolding itemNumbers
+few-items K C from to = few-in (to - from) K C from to

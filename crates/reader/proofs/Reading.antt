@@ -22,7 +22,7 @@ use Rattle.grammar.proofs.Answers.{read-between}
 use Rattle.grammar.proofs.WordsOffsets.{words-offsets}
 use Rattle.tree.specs.Built.{spanWords}
 use Rattle.node.specs.NodeWords.{Arrays}
-use Rattle.tree.specs.Building.{over, Whole, Spannable, Written}
+use Rattle.tree.specs.Building.{Whole, Spannable, Written}
 use Rattle.tree.specs.Agreeing.{tokens}
 use Rattle.tree.proofs.TokenWords.{agrees-paired}
 use Rattle.tree.proofs.TreeWords.{span-words, span-flat, span-count}
@@ -110,7 +110,7 @@ module _ (text : Bytes) (A : Arrays) (a : Analysis) (h : Analysed text A a) (N :
       pub reads-words :
           (N′ : List ℕ) (r : ℕ) (M′ P′ F′ Q′ : List ℕ) → Written (spanWords A 0 (a .tokens) 0) N N′ r 0 M P F Q M′ P′ F′ Q′
           → Reads text N N′ (record { number = 0; offset = 0; count = r })
-      unfolding G.read readInto success answerOf resultOf G.over over
+      unfolding G.read readInto success answerOf resultOf G.over
       reads-words N′ r M′ P′ F′ Q′ w =
           let c : r ≡ count (found .reading .tree) = omega (arith, w .answer, own-count) in
           rw (found .reads)

@@ -219,26 +219,14 @@ module _ (text : Bytes) (K S Z C : List ℕ) (f : Fixity) where
       (scope-written i c e (range-written p) l m k T L) (range-written q k T _)
 
   module _ {i to : ℕ} (p : Paired K C i to) (T : Table) (L : List ℕ) where
-    -- Resolving a range changes nothing outside it.
-    pub roles-kept : (k : ℕ) → Kept i to L (writtenRoles f k T i (part i to) L)
-    unfolding writtenRoles
-    roles-kept zero = kept-all i to L
-    roles-kept (suc k) = range-written p k T L .kept
-
     module _ (long : to ≤ length L) where
-      -- In the outermost span the numbers are those of the items' roles;
-      pub roles-of-outermost : (k : ℕ) → to - i < k → RolesFrom f (writtenRoles f k T i (part i to) L) i T (items (part i to))
-      unfolding writtenRoles
-      roles-of-outermost zero l = absurd (omega arith)
-      roles-of-outermost (suc k) l = range-written p k T L .outer long (writes k T i to L) (λ j a b. refl)
-
-      -- In the spans inside it;
-      pub roles-of-inner :
+      -- In the spans inside a range the numbers are those of the items' roles;
+      roles-of-inner :
           (k : ℕ) → All (RolesIn f (writtenRoles f (suc k) T i (part i to) L)) (allItemSpans (spans k) T i (items (part i to)))
       unfolding writtenRoles
       roles-of-inner k = range-written p k T L .inner long (writes k T i to L) (λ j a b. refl)
 
-      -- In all of them, where the outermost's opener says where it begins.
+      -- so in all of them, where the outermost's opener says where it begins.
       pub roles-of-spans :
           (k : ℕ) (o : Option ℕ) → contentsStart o ≡ i
           → All (RolesIn f (writtenRoles f k T i (part i to) L)) (spans k T o i (part i to))

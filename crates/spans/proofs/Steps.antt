@@ -6,11 +6,12 @@ use mathlib.Core.Logic.{_⊎_, inl, inr, ⊎-elim}
 use Prim.Native.Nat.{ℕ, zero, suc, _+_, _-_, _*_, _≤_, _<_}
 use native.Mathlib.Numerals.{add-one}
 use native.Mathlib.Omega.{arith}
-use lib.Dec.{leb, eqb}
+use lib.Dec.{eqb}
 use borrow.Author.Tests.{eq-eqb, ne-eqb, eqb-true, eqb-false}
 use lib.ListN.{length, getD}
 use lib.Seq.{sets, length-sets}
-use Rattle.layout.specs.Filled.{numbersIn, itemNumbers, pick, Fillable, Filled}
+use Rattle.layout.specs.Filled.{itemNumbers, pick, Fillable, Filled}
+use Rattle.layout.proofs.Laws.{few-items}
 use Rattle.search.specs.Slots.{slotsIn, partCode, noTree, InRange, Hint}
 use Rattle.tree.specs.Built.{slotOfToken}
 use Rattle.node.specs.NodeWords.{Arrays, arrays}
@@ -18,21 +19,6 @@ use Rattle.tree.proofs.Entries.{slots-filled}
 use Rattle.spans.specs.declared.Spans.the-variants.{Trees, NoTree, NoTreeBehind}
 use Rattle.spans.specs.Judged.{opensSpan, openersIn, Judged, spanNodes, judgedAt, judgedSpans, codedOpener, codedSpans, Checkable}
 use Rattle.spans.proofs.Openers.{openers, openers-none, openers-here, openers-next, opener-within}
-
--- A range has no more items than tokens.
-few-kept : (b : Bool) (i k : ℕ) (ns : List ℕ) → length ns ≤ k
-    → length {A = ℕ} (elim b as (λ x. List ℕ) [ true ↦ [] | false ↦ i ∷ ns ]) ≤ suc k
-few-kept true i k ns l = omega arith
-few-kept false i k ns l = omega arith
-
-few-in : (k : ℕ) (K C : List ℕ) (i to : ℕ) → length (numbersIn k K C i to) ≤ k
-unfolding numbersIn
-few-in zero K C i to = omega arith
-few-in (suc k) K C i to = few-kept (leb to i) i k _ (few-in k K C _ to)
-
-few-items : (K C : List ℕ) (from to : ℕ) → length (itemNumbers K C from to) ≤ to - from
-unfolding itemNumbers
-few-items K C from to = few-in (to - from) K C from to
 
 -- A span whose items are filled in from entry 0 on.
 module _ {K C P I Q : List ℕ} {from to : ℕ} {M A B D M′ A′ B′ D′ : List ℕ} {n : ℕ}

@@ -6,7 +6,7 @@ use native.Mathlib.Omega.{arith}
 use lib.ListN.{length, drop, length-append, length-drop, drop-of-length-le}
 use lib.Seq.{sets, sets-eq, take-all, take-at, drop-at, drop-append-add, drop-drop}
 use borrow.Rule.Slice.PartMut.{midOf, putMid}
-use Rattle.tree.specs.Building.{over}
+use Rattle.grammar.specs.Answer.{over}
 
 pub over-none : (N : List ℕ) → over [] N ≡ N
 unfolding over

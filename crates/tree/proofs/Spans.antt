@@ -6,15 +6,17 @@ use native.Mathlib.Numerals.{add-one}
 use native.Mathlib.Omega.{arith}
 use lib.ListN.{length, take, getD, length-append, length-map}
 use lib.Seq.{sets, length-sets}
+use Rattle.grammar.specs.Answer.{over}
 use Rattle.grammar.specs.Nodes.{nodeWords}
 use Rattle.nesting.proofs.PairedCases.{paired-ordered}
 use Rattle.layout.specs.Filled.{itemNumbers, pick, Fillable, Filled}
+use Rattle.layout.proofs.Laws.{few-items}
 use Rattle.search.specs.Slots.{slotsIn}
 use Rattle.tree.specs.Built.{slotOfToken, spanWords}
 use Rattle.node.specs.NodeWords.{Arrays, tokenNode, bracketNode, blockNode, arrays}
-use Rattle.tree.specs.Building.{over, entries, tokensOf, cover, partWords, leafWords, Items, Spannable, Buildable, Leafable, Written, Whole}
+use Rattle.tree.specs.Building.{entries, tokensOf, cover, partWords, leafWords, Items, Spannable, Buildable, Leafable, Written, Whole}
 use Rattle.tree.proofs.Over.{over-length, over-node}
-use Rattle.tree.proofs.Covers.{tokens-bracket, tokens-block, cover-least, spread}
+use Rattle.tree.proofs.Covers.{tokens-bracket, tokens-block, spread}
 use Rattle.tree.proofs.Words.{span-part, span-bound, token-size, leaf-bracket, leaf-bracket-length, leaf-block, leaf-block-length, leaf-token}
 use Rattle.tree.proofs.Entries.{take-kept, sets-take, entries-filled, slots-filled}
 
@@ -27,7 +29,7 @@ module _ {A : Arrays} {M P F Q : List ℕ} {from to free : ℕ} {N : List ℕ} {
   module _ {M′ P′ F′ Q′ : List ℕ} {n : ℕ}
       (g : Filled (A .kinds) (A .closes) (A .prefixes) (A .infixes) (A .postfixes) from to free M P F Q M′ P′ F′ Q′ n) where
     found-few : length (itemNumbers (A .kinds) (A .closes) from to) ≤ to - from
-    found-few = omega (arith, cover-least A (spread A (h .span) .items), spread A (h .span) .covered)
+    found-few = few-items (A .kinds) (A .closes) from to
 
     filled-entries : entries M′ free n ≡ itemNumbers (A .kinds) (A .closes) from to
     filled-entries =

@@ -10,6 +10,7 @@ use lib.ListN.{length, take, drop, getD, length-append, length-drop, length-map}
 use lib.Seq.{sets, length-take-le}
 use borrow.Author.Tests.{eq-eqb, ne-eqb, lt-ltb, le-ltb, ltb-true, ltb-false}
 use borrow.Rule.Slice.PartMut.{midOf, putMid, same-len-mid}
+use Rattle.grammar.specs.Answer.{over}
 use Rattle.grammar.specs.Bytes.{isEmpty}
 use Rattle.search.specs.Slots.{slotsIn, rootSlot, Hint, leftHint, rightHint, couldBeRightAt, precedenceOf}
 use Rattle.search.proofs.Ranges.{range-length, range-take, range-drop}
@@ -18,7 +19,7 @@ use Rattle.search.proofs.Roots.{range-size}
 use Rattle.search.proofs.PartRanges.{root-begins, hint-before, hint-after}
 use Rattle.tree.specs.Built.{slotOfToken, operatorWords}
 use Rattle.node.specs.NodeWords.{Arrays, operatorNode, arrays}
-use Rattle.tree.specs.Building.{over, entries, tokensOf, cover, partWords, leafWords, ItemAt, Items, more, Buildable, Leafable, Written, Whole}
+use Rattle.tree.specs.Building.{entries, tokensOf, cover, partWords, leafWords, ItemAt, Items, more, Buildable, Leafable, Written, Whole}
 use Rattle.tree.proofs.Over.{over-none, over-length, over-node, lent-part, over-lent}
 use Rattle.tree.proofs.Covers.{cover-more, tokens-some, cover-least, items-take, items-drop, item-of, cover-split, length-split}
 use Rattle.tree.proofs.Words.{operator-size, rootOf, operator-length, part-none, part-bound, part-item, part-operator, operator-words}

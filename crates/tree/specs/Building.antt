@@ -1,18 +1,15 @@
 -- What the builder asks and what it leaves: the words of a part of a span over the front of the node table, with the entries of the
 -- item arrays that are in use as they were.
 use mathlib.Core.Path.{_≡_}
-use mathlib.Core.List.{List, [], _∷_, _++_, map}
+use mathlib.Core.List.{List, [], _∷_, map}
 use Prim.Native.Nat.{ℕ, suc, _+_, _-_, _*_, _≤_, _<_}
 use lib.ListN.{length, take, drop, getD}
+use Rattle.grammar.specs.Answer.{over}
 use Rattle.nesting.specs.Paired.{Paired}
 use Rattle.layout.specs.Filled.{behindItem}
 use Rattle.search.specs.Slots.{slotsIn, Hint}
 use Rattle.tree.specs.Built.{slotOfToken, itemWords, rangeIn, spanWords}
 use Rattle.node.specs.NodeWords.{Arrays}
-
--- Words over the front of a table.
-unfoldable pub over : List ℕ → List ℕ → List ℕ
-over w n = w ++ drop (length w) n
 
 -- The entries of an array from number `from` to number `to`.
 unfoldable pub entries : List ℕ → ℕ → ℕ → List ℕ

@@ -26,8 +26,8 @@ use Rattle.declarations.proofs.Parts.{
   word-plain,
   word-other,
   word-fixity,
-  side-other,
-  side-named,
+  allowed-other,
+  allowed-named,
   digits-other,
   digits-given,
   role-coded,
@@ -79,11 +79,11 @@ other-word c = sym (c .before .equal .ensures) ∙ c .if3 .left
 named : (c : tie.Else4) → Goes (start (first c)) (associativityPart (fixityOf (fixity c))) 1
 named c = worded (first c) ∙ word-fixity _ _ (other-word (c .before .before)) (fixity c) (c .before .fixity-named .ensures) (c .if4 .left)
 
-sided :
+with-allowed :
     (c : tie.After-associativity-named)
     → Goes (start (first (second c))) (λ ts. associativityPart (fixityOf (fixity (second c))) (symbol (c .before .characters2 .result .now) ∷ ts)) 2
 unfolding tokenOf
-sided c =
+with-allowed c =
     let h = c .before in
     let e = h .before .before .before in
     let from = start (first (second c)) .args .from in
@@ -94,7 +94,7 @@ sided c =
 associated :
     (c : tie.Else7)
     → Goes (start (first (second (c .before)))) (precedencePart (fixityOf (fixity (second (c .before)))) (associativityOf (associativity c))) 2
-associated c = sided (c .before) ∙ side-named _ _ _ (associativity c) (c .before .associativity-named .ensures) (c .if7 .left)
+associated c = with-allowed (c .before) ∙ allowed-named _ _ _ (associativity c) (c .before .associativity-named .ensures) (c .if7 .left)
 
 with-digits :
     (c : tie.After-precedence)
@@ -205,7 +205,7 @@ returns-7 : tie.Need-returns-7
 unfolding codedParsed
 returns-7 c =
     let a = c .before in
-    sym (ap codedParsed (sided a ∙ side-other _ _ _ (a .associativity-named .result) (a .associativity-named .ensures) (c .if7 .taken)))
+    sym (ap codedParsed (with-allowed a ∙ allowed-other _ _ _ (a .associativity-named .result) (a .associativity-named .ensures) (c .if7 .taken)))
 
 add-j : tie.Need-add-j
 add-j c = search needs
