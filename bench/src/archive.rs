@@ -11,10 +11,21 @@ struct RuleAnswer {
 
 unsafe extern "C" {
     fn rule_read(text: *const u8, text_len: usize, nodes: *mut u32, nodes_len: usize) -> RuleAnswer;
+    fn rule_canonicalize(text: *const u8, text_len: usize, buffer: *mut u8, buffer_len: usize) -> RuleAnswer;
+}
+
+impl From<RuleAnswer> for Answer {
+    fn from(answer: RuleAnswer) -> Self {
+        Answer { number: answer.number, offset: answer.offset, count: answer.count }
+    }
 }
 
 pub fn read(text: &[u8], nodes: &mut [u32]) -> Answer {
     // SAFETY: pointers and lengths of live slices; the archive keeps to them.
-    let answer = unsafe { rule_read(text.as_ptr(), text.len(), nodes.as_mut_ptr(), nodes.len()) };
-    Answer { number: answer.number, offset: answer.offset, count: answer.count }
+    unsafe { rule_read(text.as_ptr(), text.len(), nodes.as_mut_ptr(), nodes.len()) }.into()
+}
+
+pub fn canonicalize(text: &[u8], buffer: &mut [u8]) -> Answer {
+    // SAFETY: as in `read`.
+    unsafe { rule_canonicalize(text.as_ptr(), text.len(), buffer.as_mut_ptr(), buffer.len()) }.into()
 }

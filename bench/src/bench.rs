@@ -1,6 +1,6 @@
 //! Time per call on fixed texts, best of several runs.
 
-use rule_bench::reader::{self, Answer, MAX_TOKENS, NODE_WORDS};
+use rule_bench::reader::{self, Answer, MAX_BYTES, MAX_TOKENS, NODE_WORDS};
 use std::fmt::Write;
 use std::hint::black_box;
 use std::time::{Duration, Instant};
@@ -8,12 +8,19 @@ use std::time::{Duration, Instant};
 const RUNS: usize = 200;
 const RUN_TIME: Duration = Duration::from_millis(4);
 
-type Read = fn(&[u8], &mut [u32]) -> Answer;
+/// A reader's service: a text in, a buffer of words or bytes out.
+type Call<T> = fn(&[u8], &mut [T]) -> Answer;
 
 #[cfg(not(feature = "archive"))]
-const READERS: [(&str, Read); 1] = [("Rust ns", reader::read)];
+const READ: [(&str, Call<u32>); 1] = [("Rust ns", reader::read)];
 #[cfg(feature = "archive")]
-const READERS: [(&str, Read); 2] = [("Rust ns", reader::read), ("archive ns", crate::archive::read)];
+const READ: [(&str, Call<u32>); 2] = [("Rust ns", reader::read), ("archive ns", crate::archive::read)];
+
+#[cfg(not(feature = "archive"))]
+const CANONICALIZE: [(&str, Call<u8>); 1] = [("Rust ns", reader::canonicalize)];
+#[cfg(feature = "archive")]
+const CANONICALIZE: [(&str, Call<u8>); 2] =
+    [("Rust ns", reader::canonicalize), ("archive ns", crate::archive::canonicalize)];
 
 pub fn rows() -> Vec<(&'static str, String)> {
     vec![
@@ -53,56 +60,66 @@ fn declared_operators() -> String {
 }
 
 /// The best time so far of one reader on one text.
-struct Timer {
-    read: Read,
+struct Timer<T> {
+    call: Call<T>,
     calls: u32,
     best: f64,
 }
 
-impl Timer {
+impl<T> Timer<T> {
     /// Finds how many calls fill a run.
-    fn new(read: Read, text: &[u8], nodes: &mut [u32]) -> Self {
+    fn new(call: Call<T>, text: &[u8], buffer: &mut [T]) -> Self {
         let start = Instant::now();
         let mut calls = 0;
         while start.elapsed() < RUN_TIME {
-            (0..16).for_each(|_| _ = black_box(read(black_box(text), black_box(nodes))));
+            (0..16).for_each(|_| _ = black_box(call(black_box(text), black_box(buffer))));
             calls += 16;
         }
-        Timer { read, calls, best: f64::MAX }
+        Timer { call, calls, best: f64::MAX }
     }
 
-    fn run(&mut self, text: &[u8], nodes: &mut [u32]) {
+    fn run(&mut self, text: &[u8], buffer: &mut [T]) {
         let start = Instant::now();
-        (0..self.calls).for_each(|_| _ = black_box((self.read)(black_box(text), black_box(nodes))));
+        (0..self.calls).for_each(|_| _ = black_box((self.call)(black_box(text), black_box(buffer))));
         self.best = self.best.min(start.elapsed().as_nanos() as f64 / f64::from(self.calls));
     }
 }
 
 pub fn run() -> Result<(), String> {
-    let mut nodes = vec![0; NODE_WORDS * MAX_TOKENS];
+    times(["reading", "nodes"], READ, &mut [0; NODE_WORDS * MAX_TOKENS])?;
+    println!();
+    times(["canonical text", "written"], CANONICALIZE, &mut [0; MAX_BYTES])
+}
+
+/// Times one service of each reader; `titles` of the table and of the count.
+fn times<T, const N: usize>(
+    titles: [&str; 2],
+    readers: [(&str, Call<T>); N],
+    buffer: &mut [T],
+) -> Result<(), String> {
     let rows = rows();
     let mut timers = Vec::new();
     for (name, text) in &rows {
-        for (reader, read) in READERS {
-            let answer = read(text.as_bytes(), &mut nodes);
+        for (reader, call) in readers {
+            let answer = call(text.as_bytes(), buffer);
             if answer.number != 0 {
                 return Err(format!("{name}, {reader}: {answer:?}"));
             }
         }
-        timers.push(READERS.map(|(_, read)| Timer::new(read, text.as_bytes(), &mut nodes)));
+        timers.push(readers.map(|(_, call)| Timer::new(call, text.as_bytes(), buffer)));
     }
     // Turn by turn, so that a busy moment of the machine spoils no row.
     for _ in 0..RUNS {
         for ((_, text), timers) in rows.iter().zip(&mut timers) {
-            timers.iter_mut().for_each(|timer| timer.run(text.as_bytes(), &mut nodes));
+            timers.iter_mut().for_each(|timer| timer.run(text.as_bytes(), buffer));
         }
     }
-    print!("{:<24} {:>6} {:>6}", "row", "bytes", "nodes");
-    READERS.iter().for_each(|(reader, _)| print!(" {reader:>12}"));
-    println!("{}", if READERS.len() > 1 { "   ratio" } else { "" });
+    print!("{:<24} {:>6} {:>7}", titles[0], "bytes", titles[1]);
+    readers.iter().for_each(|(reader, _)| print!(" {reader:>12}"));
+    println!("{}", if N > 1 { "   ratio" } else { "" });
     for ((name, text), timers) in rows.iter().zip(&timers) {
-        let count = reader::read(text.as_bytes(), &mut nodes).count;
-        print!("{name:<24} {:>6} {count:>6}", text.len());
+        let count = readers[0].1(text.as_bytes(), buffer).count;
+        print!("{name:<24} {:>6} {count:>7}", text.len());
         timers.iter().for_each(|timer| print!(" {:>12.1}", timer.best));
         match &timers[..] {
             [rust, archive] => println!(" {:>7.2}", archive.best / rust.best),

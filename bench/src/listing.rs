@@ -1,12 +1,29 @@
-//! Hexadecimal lines and the listing of a reading.
+//! Hexadecimal lines, and the listing of a text in document 01's format.
 
-use crate::reader::{self, MAX_TOKENS, NODE_WORDS};
+use crate::reader::{self, MAX_BYTES, MAX_TOKENS, NODE_WORDS};
 use std::fmt::Write;
 
 const KINDS: [&str; 8] = ["", "name", "number", "prefix", "infix", "postfix", "bracket", "block"];
 
-/// The listing of a text, read with a node table that is large enough.
+/// The listing of a text with its canonical text, both buffers large enough.
 pub fn of(text: &[u8]) -> String {
+    let mut listing = reading(text);
+    if listing.starts_with("refused") {
+        return listing;
+    }
+    let mut buffer = [0; MAX_BYTES];
+    let answer = reader::canonicalize(text, &mut buffer);
+    if answer.number == 0 {
+        let canonical = String::from_utf8_lossy(&buffer[..answer.count]);
+        writeln!(listing, "tidy {}\n{canonical}", answer.count).unwrap();
+    } else {
+        writeln!(listing, "refused {} at {}", answer.number, answer.offset).unwrap();
+    }
+    listing
+}
+
+/// The listing of a text's reading alone.
+pub fn reading(text: &[u8]) -> String {
     let mut nodes = [0; NODE_WORDS * MAX_TOKENS];
     let answer = reader::read(text, &mut nodes);
     if answer.number != 0 {
@@ -20,16 +37,23 @@ pub fn of(text: &[u8]) -> String {
     listing
 }
 
-/// Splits a file of listings; each starts with `read` or `refused`.
+/// Splits a file of listings, with canonical texts or without. Behind the
+/// nodes of a reading come two lines if it has a canonical text, one if that
+/// is refused.
 pub fn split(file: &str) -> Vec<String> {
-    let mut listings: Vec<String> = Vec::new();
-    for line in file.lines() {
-        if line.starts_with('r') || listings.is_empty() {
-            listings.push(String::new());
-        }
-        let last = listings.last_mut().unwrap();
-        last.push_str(line);
-        last.push('\n');
+    let lines: Vec<&str> = file.lines().collect();
+    let mut listings = Vec::new();
+    let mut rest = &lines[..];
+    while let Some(first) = rest.first() {
+        let nodes = first.strip_prefix("read ").and_then(|count| count.parse().ok()).unwrap_or(0);
+        let behind = match rest.get(1 + nodes) {
+            Some(line) if nodes > 0 && line.starts_with("tidy ") => 2,
+            Some(&"refused 13 at 0") if nodes > 0 => 1,
+            _ => 0,
+        };
+        let (listing, next) = rest.split_at((1 + nodes + behind).min(rest.len()));
+        listings.push(listing.join("\n") + "\n");
+        rest = next;
     }
     listings
 }

@@ -1,4 +1,4 @@
-//! cases HEX LISTING | texts SEED N | compare SEED N | bench
+//! cases HEX LISTING | listings HEX | texts SEED N | compare SEED N | bench
 
 #[cfg(feature = "archive")]
 mod archive;
@@ -15,11 +15,12 @@ fn main() -> ExitCode {
     let args: Vec<&str> = args.iter().map(String::as_str).collect();
     let result = match args[..] {
         ["cases", hex, recorded] => cases(hex, recorded),
+        ["listings", hex] => print_listings(hex),
         ["texts", seed, n] => numbers(seed, n).and_then(|(seed, n)| print_texts(seed, n)),
         #[cfg(feature = "archive")]
         ["compare", seed, n] => numbers(seed, n).and_then(|(seed, n)| compare::run(seed, n)),
         ["bench"] => bench::run(),
-        _ => Err("usage: cases HEX LISTING | texts SEED N | compare SEED N | bench".into()),
+        _ => Err("usage: cases HEX LISTING | listings HEX | texts SEED N | compare SEED N | bench".into()),
     };
     match result {
         Ok(()) => ExitCode::SUCCESS,
@@ -37,10 +38,11 @@ fn numbers(seed: &str, n: &str) -> Result<(u64, u64), String> {
     }
 }
 
-/// Compares the listing of each text with the recorded one.
+/// Compares the listing of each text with the recorded one, with canonical
+/// texts if the file has any.
 fn cases(hex: &str, recorded: &str) -> Result<(), String> {
-    let file = |path: &str| std::fs::read_to_string(path).map_err(|e| format!("{path}: {e}"));
     let (hex, recorded) = (file(hex)?, file(recorded)?);
+    let listing_of = if recorded.contains("\ntidy ") { listing::of } else { listing::reading };
     let recorded = listing::split(&recorded);
     let total = hex.lines().count();
     if recorded.len() != total {
@@ -48,8 +50,8 @@ fn cases(hex: &str, recorded: &str) -> Result<(), String> {
     }
     let mut agree = 0;
     for (number, (line, expected)) in hex.lines().zip(&recorded).enumerate() {
-        let text = listing::from_hex(line).ok_or(format!("line {}: not hexadecimal", number + 1))?;
-        let found = listing::of(&text);
+        let text = text(number, line)?;
+        let found = listing_of(&text);
         if found == *expected {
             agree += 1;
         } else {
@@ -59,6 +61,23 @@ fn cases(hex: &str, recorded: &str) -> Result<(), String> {
     }
     println!("{agree} of {total} agree");
     if agree == total { Ok(()) } else { Err("not all agree".into()) }
+}
+
+/// Prints the listing of each text, with its canonical text.
+fn print_listings(hex: &str) -> Result<(), String> {
+    for (number, line) in file(hex)?.lines().enumerate() {
+        print!("{}", listing::of(&text(number, line)?));
+    }
+    Ok(())
+}
+
+fn file(path: &str) -> Result<String, String> {
+    std::fs::read_to_string(path).map_err(|e| format!("{path}: {e}"))
+}
+
+/// The text of a line, which has a number from 0 on.
+fn text(number: usize, line: &str) -> Result<Vec<u8>, String> {
+    listing::from_hex(line).ok_or(format!("line {}: not hexadecimal", number + 1))
 }
 
 fn print_texts(seed: u64, n: u64) -> Result<(), String> {

@@ -1,8 +1,10 @@
-//! The reader of document 01: a text in, a node table out.
+//! The reader of document 01: a text in, a node table or canonical text out.
 //!
 //! Four linear passes: tokens (checks 1 to 5), nesting (6, 7), operators in
-//! force (8 to 10), trees (11). Nothing is written before check 12 has passed.
+//! force (8 to 10), trees (11). Nothing is written before check 12, or 13 for
+//! canonical text, has passed.
 
+pub mod canonical;
 pub mod list;
 pub mod nesting;
 pub mod operators;
@@ -22,13 +24,23 @@ pub const MAX_OPERATORS: usize = 64;
 pub const MAX_PRECEDENCE: u32 = 1200;
 pub const NODE_WORDS: usize = 5;
 
-/// Read: number 0, offset 0, count nodes. Rejected: the check's number, its
-/// offset, count 0.
+/// Read: number 0, offset 0, count nodes or bytes written. Rejected: the
+/// check's number, its offset, count 0.
 #[derive(Clone, Copy, Debug, PartialEq, Eq)]
 pub struct Answer {
     pub number: u8,
     pub offset: usize,
     pub count: usize,
+}
+
+impl Answer {
+    #[inline(always)]
+    fn new(written: Result<usize, Reject>) -> Self {
+        match written {
+            Ok(count) => Answer { number: 0, offset: 0, count },
+            Err(Reject { number, offset }) => Answer { number, offset, count: 0 },
+        }
+    }
 }
 
 /// The number of a failed check and its offset.
@@ -52,10 +64,18 @@ impl Reject {
 pub fn read(text: &[u8], nodes: &mut [u32]) -> Answer {
     let mut tokens = List::new();
     let mut tree = List::new();
-    match analyze(text, &mut tokens, &mut tree).and_then(|()| write(&tokens, &tree, nodes)) {
-        Ok(()) => Answer { number: 0, offset: 0, count: tree.len() },
-        Err(Reject { number, offset }) => Answer { number, offset, count: 0 },
-    }
+    let written = analyze(text, &mut tokens, &mut tree).and_then(|()| write(&tokens, &tree, nodes));
+    Answer::new(written)
+}
+
+/// Writes the canonical text of `text` to the front of `buffer`. A rejection
+/// changes no byte of `buffer`.
+#[inline(never)]
+pub fn canonicalize(text: &[u8], buffer: &mut [u8]) -> Answer {
+    let mut tokens = List::new();
+    let mut tree = List::new();
+    let analyzed = analyze(text, &mut tokens, &mut tree);
+    Answer::new(analyzed.and_then(|()| canonical::write(text, &tokens, &tree, buffer)))
 }
 
 /// Checks 1 to 11: the resolved tokens and the tree's nodes, children first.
@@ -75,8 +95,8 @@ pub fn analyze(
     tree::build(tokens, tree)
 }
 
-/// Check 12, then five words for each node.
-fn write(tokens: &[Token], tree: &[Node], nodes: &mut [u32]) -> Result<(), Reject> {
+/// Check 12, then five words for each node. How many nodes.
+fn write(tokens: &[Token], tree: &[Node], nodes: &mut [u32]) -> Result<usize, Reject> {
     if nodes.len() / NODE_WORDS < tree.len() {
         return Err(Reject::new(12, 0));
     }
@@ -84,7 +104,7 @@ fn write(tokens: &[Token], tree: &[Node], nodes: &mut [u32]) -> Result<(), Rejec
     for (number, (node, row)) in tree.iter().zip(rows).enumerate() {
         *row = words(tokens, *node, number as u32);
     }
-    Ok(())
+    Ok(tree.len())
 }
 
 /// Kind, first child, second child, offset, length. The last child of a node
@@ -96,7 +116,7 @@ fn words(tokens: &[Token], node: Node, number: u32) -> [u32; NODE_WORDS] {
     let len = u32::from(token.len);
     let last = number.wrapping_sub(1);
     match node.kind {
-        NodeKind::Name if token.kind == Kind::Quoted => [1, 0, 0, start + 1, len - 2],
+        NodeKind::Name if matches!(token.kind, Kind::Quoted { .. }) => [1, 0, 0, start + 1, len - 2],
         NodeKind::Name => [1, 0, 0, start, len],
         NodeKind::Number => [2, 0, 0, start, len],
         NodeKind::Prefix => [3, last, 0, start, len],

@@ -311,6 +311,6 @@ fn same_listing() {
     let mut texts = Texts::new(11);
     for _ in 0..60_000 {
         let text = texts.next();
-        assert_eq!(listing::of(&text), slow_listing(&text), "{}", String::from_utf8_lossy(&text));
+        assert_eq!(listing::reading(&text), slow_listing(&text), "{}", String::from_utf8_lossy(&text));
     }
 }

@@ -10,7 +10,7 @@ pub fn link(tokens: &mut [Token], text_len: usize) -> Result<(), Reject> {
     let mut openers = List::<u16, MAX_DEPTH>::new();
     for at in 0..tokens.len() {
         let Token { kind, start, .. } = tokens[at];
-        if matches!(kind, Kind::Word | Kind::Sign | Kind::Number | Kind::Quoted) {
+        if matches!(kind, Kind::Word | Kind::Sign | Kind::Number | Kind::Quoted { .. }) {
             continue;
         }
         let number = at as u16;

@@ -6,7 +6,8 @@ use super::table::Table;
 use super::token::{Kind, Token};
 use super::{MAX_OPERATORS, MAX_PRECEDENCE, Reject};
 
-/// Marks each word or sign with a role in force as an operator.
+/// Marks each word or sign with a role in force as an operator, and each
+/// quoted name that can stand bare.
 pub fn resolve(text: &[u8], tokens: &mut [Token]) -> Result<(), Reject> {
     let mut table = Table::new(text);
     let mut at = 0;
@@ -17,6 +18,11 @@ pub fn resolve(text: &[u8], tokens: &mut [Token]) -> Result<(), Reject> {
                     let (precedence, roles) = (operator.precedence(), operator.roles);
                     tokens[at].kind = Kind::Operator { precedence, roles };
                 }
+            }
+            Kind::Quoted { .. } => {
+                let name = tokens[at].unquoted(text);
+                let bare = name.is_some_and(|name| table.operator(&name).is_none());
+                tokens[at].kind = Kind::Quoted { bare };
             }
             Kind::Let { body } => {
                 let body = body as usize;

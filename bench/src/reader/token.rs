@@ -12,7 +12,10 @@ pub enum Kind {
     Word,
     Sign,
     Number,
-    Quoted,
+    /// A quoted name; once resolved, whether it can stand bare where it is.
+    Quoted {
+        bare: bool,
+    },
     /// A word or sign with a role in force, once resolved.
     Operator {
         precedence: u16,
@@ -53,6 +56,20 @@ impl Token {
 
     pub fn bytes<'t>(&self, text: &'t [u8]) -> &'t [u8] {
         &text[self.start as usize..][..self.len as usize]
+    }
+
+    /// The word or sign between the quotes of a quoted name, if it is one and
+    /// no keyword.
+    pub fn unquoted(&self, text: &[u8]) -> Option<Token> {
+        let start = self.start as usize + 1;
+        let text = &text[..start + self.len as usize - 2];
+        let (end, key, kind) = match class(text[start]) {
+            Class::Letter => word(text, start),
+            Class::Sign => sign(text, start),
+            _ => return None,
+        };
+        let whole = end == text.len() && matches!(kind, Kind::Word | Kind::Sign);
+        whole.then_some(Token { key, start: start as u16, len: self.len - 2, kind })
     }
 }
 
@@ -124,6 +141,21 @@ fn run(text: &[u8], start: usize, belongs: impl Fn(Class) -> bool) -> (usize, u6
     (at, key)
 }
 
+/// The end, key and kind of the word that starts here.
+#[inline(always)]
+fn word(text: &[u8], start: usize) -> (usize, u64, Kind) {
+    let belongs = |class| matches!(class, Class::Letter | Class::Digit | Class::Underscore);
+    let (end, key) = run(text, start, belongs);
+    (end, key, word_kind(key, end - start))
+}
+
+/// The end, key and kind of the sign that starts here.
+#[inline(always)]
+fn sign(text: &[u8], start: usize) -> (usize, u64, Kind) {
+    let (end, key) = run(text, start, |class| class == Class::Sign);
+    (end, key, Kind::Sign)
+}
+
 /// The end of the quoted name that opens at `start`, if it is well formed.
 #[inline(always)]
 fn quoted_end(text: &[u8], start: usize) -> Option<usize> {
@@ -161,20 +193,19 @@ pub fn scan(text: &[u8], tokens: &mut List<Token, MAX_TOKENS>) -> Result<bool, R
         let start = at;
         let (end, key, kind, max) = match class(text[start]) {
             Class::Letter => {
-                let word = |class| matches!(class, Class::Letter | Class::Digit | Class::Underscore);
-                let (end, key) = run(text, start, word);
-                (end, key, word_kind(key, end - start), MAX_NAME)
+                let (end, key, kind) = word(text, start);
+                (end, key, kind, MAX_NAME)
             }
             Class::Sign => {
-                let (end, key) = run(text, start, |class| class == Class::Sign);
-                (end, key, Kind::Sign, MAX_NAME)
+                let (end, key, kind) = sign(text, start);
+                (end, key, kind, MAX_NAME)
             }
             Class::Digit => {
                 let (end, _) = run(text, start, |class| class == Class::Digit);
                 (end, 0, Kind::Number, MAX_DIGITS)
             }
             Class::Quote => match quoted_end(text, start) {
-                Some(end) => (end, 0, Kind::Quoted, MAX_NAME + 2),
+                Some(end) => (end, 0, Kind::Quoted { bare: false }, MAX_NAME + 2),
                 None => return Err(Reject::new(3, start)),
             },
             Class::Delimiter => {
@@ -193,7 +224,7 @@ pub fn scan(text: &[u8], tokens: &mut List<Token, MAX_TOKENS>) -> Result<bool, R
         if tokens.is_full() {
             return Err(Reject::new(5, start));
         }
-        nested |= !matches!(kind, Kind::Word | Kind::Sign | Kind::Number | Kind::Quoted);
+        nested |= !matches!(kind, Kind::Word | Kind::Sign | Kind::Number | Kind::Quoted { .. });
         tokens.push(Token { key, start: start as u16, len: (end - start) as u8, kind });
         at = end;
     }

@@ -198,7 +198,7 @@ pub fn build(tokens: &[Token], nodes: &mut List<Node, MAX_TOKENS>) -> Result<(),
     let mut at = 0;
     loop {
         let step = match tokens.get(at).map(|token| token.kind) {
-            Some(Kind::Word | Kind::Sign | Kind::Quoted) => builder.leaf(NodeKind::Name, at),
+            Some(Kind::Word | Kind::Sign | Kind::Quoted { .. }) => builder.leaf(NodeKind::Name, at),
             Some(Kind::Number) => builder.leaf(NodeKind::Number, at),
             Some(Kind::Operator { precedence, roles }) => builder.operator(at, precedence, roles),
             Some(Kind::Open { .. }) => {

@@ -4,9 +4,10 @@ use super::{Random, Tokens, join, random_token};
 
 pub fn text(random: &mut Random) -> Vec<u8> {
     let over = random.index(2);
-    let mut tokens = match random.below(8) {
+    let mut tokens = match random.below(9) {
         0 => return bytes(random, 16_384 + over),
         1 => return tokens(random, 1024 + over),
+        8 => return canonical(random, 16_384 + over),
         2 => depth(random, 32 + over),
         3 | 4 => operators(random, 64 + over),
         5 => names(random, 63 + over),
@@ -40,6 +41,30 @@ fn bytes(random: &mut Random, len: usize) -> Vec<u8> {
     if random.one_in(4) {
         let last = text.len() - 1;
         text[*random.pick(&[last, last - 1, 0])] = *random.pick(b"a,'");
+    }
+    text
+}
+
+/// A text with few blanks whose canonical text has `len` bytes.
+fn canonical(random: &mut Random, len: usize) -> Vec<u8> {
+    let mut text = b"(a)".to_vec();
+    let mut rest = len - 1;
+    while rest > 0 {
+        // A piece takes 3 bytes besides the name.
+        let name = match rest {
+            ..=66 => rest - 3,
+            67..=129 => 30,
+            _ => 34 + random.index(30),
+        };
+        rest -= 3 + name;
+        let piece = match random.below(16) {
+            0 => format!("+({})", "n".repeat(name)),
+            1 => format!("+'{}'", "n".repeat(name)),
+            2 => format!("+'{}'", " ".repeat(name - 2)),
+            3 => format!("+ {} ", "?".repeat(name)),
+            _ => format!("+{}", "n".repeat(name)),
+        };
+        text.extend(piece.as_bytes());
     }
     text
 }

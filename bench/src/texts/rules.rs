@@ -1,6 +1,7 @@
 //! Well-formed rules: trees over a table of operators, a bracket round most
-//! operands that their place does not admit; blocks whose declarations mostly
-//! pass the checks.
+//! operands that their place does not admit and round some others; blocks whose
+//! declarations mostly pass the checks; names in quotes where they need them
+//! and where not.
 
 use super::{Random, Tokens};
 
@@ -79,6 +80,8 @@ struct Expression {
 struct Rules<'r> {
     random: &'r mut Random,
     operators: Vec<Operator>,
+    /// What any block so far has declared, still in force or not.
+    declared: Vec<&'static str>,
     depth: u32,
 }
 
@@ -89,7 +92,7 @@ pub fn rule(random: &mut Random) -> Tokens {
         1..10 => 20 + random.below(60),
         _ => 1 + random.below(20),
     };
-    let mut rules = Rules { random, operators: start(), depth: 0 };
+    let mut rules = Rules { random, operators: start(), declared: Vec::new(), depth: 0 };
     rules.expression(size, 1200).tokens
 }
 
@@ -146,10 +149,15 @@ impl Rules<'_> {
         found
     }
 
-    /// The operand, in a bracket (but not always) if it is not admitted.
+    /// The operand, in a bracket (but not always) if it is not admitted, else
+    /// now and then in spare brackets.
     fn fit(&mut self, operand: Expression, precedence: u32, same: bool) -> Tokens {
         let admitted = operand.precedence < precedence || same && operand.precedence == precedence;
-        if admitted || self.random.one_in(60) { operand.tokens } else { bracket(operand).tokens }
+        let mut brackets = u64::from(!admitted && !self.random.one_in(60));
+        if self.random.one_in(16) {
+            brackets += 1 + self.random.below(3);
+        }
+        (0..brackets).fold(operand, |operand, _| bracket(operand)).tokens
     }
 
     fn nested(&mut self, size: u64) -> Expression {
@@ -160,11 +168,25 @@ impl Rules<'_> {
     }
 
     fn leaf(&mut self) -> Expression {
-        let names = if self.random.one_in(8) { NAMES } else { LEAVES };
+        let leaf = match self.random.below(10) {
+            0 => self.name(NAMES),
+            1 | 2 if !self.declared.is_empty() => self.name(&self.declared.clone()),
+            3 => format!("{}{}", self.zeros(), self.random.below(1000)),
+            _ => self.random.pick(LEAVES).to_string(),
+        };
+        Expression { tokens: vec![leaf.into()], precedence: 0, right: false }
+    }
+
+    /// A name in quotes if it is an operator here, else half of the time.
+    fn name(&mut self, names: &[&str]) -> String {
         let name = *self.random.pick(names);
         let in_force = self.operators.iter().any(|o| o.name == name && o.roles != [None; 3]);
-        let name = if in_force { format!("'{name}'") } else { name.into() };
-        Expression { tokens: vec![name.into()], precedence: 0, right: false }
+        if in_force || self.random.one_in(2) { format!("'{name}'") } else { name.into() }
+    }
+
+    /// At most five, often none.
+    fn zeros(&mut self) -> &'static str {
+        if self.random.one_in(3) { &"00000"[self.random.index(6)..] } else { "" }
     }
 
     fn block(&mut self, size: u64) -> Expression {
@@ -220,9 +242,9 @@ impl Rules<'_> {
 
     fn declare(&mut self, name: &'static str, fixity: usize, role: (u32, Side), tokens: &mut Tokens) {
         self.operator(name).roles[fixity] = Some(role);
+        self.declared.push(name);
         let side = ["non", "left", "right"][role.1 as usize];
-        let zeros = if self.random.one_in(15) { "00" } else { "" };
-        let precedence = format!("{zeros}{}", role.0);
+        let precedence = format!("{}{}", self.zeros(), role.0);
         tokens.extend([FIXITIES[fixity], side, &precedence, name, ";"].map(|token| token.into()));
     }
 

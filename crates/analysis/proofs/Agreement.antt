@@ -24,18 +24,19 @@ use Rattle.scan.specs.Tokens.{Stored}
 use Rattle.scan.proofs.Passed.{passed-tokens, passed-within, passed-quoted}
 use Rattle.nesting.specs.Paired.{IsContentKind, Paired, done, content, bracket, block, numbersFrom}
 use Rattle.nesting.proofs.PairedItems.{behind-pair, behind-scope, length-range, items-content, items-bracket, items-block}
-use Rattle.resolve.specs.Resolved.{numberOf, writtenRoles}
+use Rattle.resolve.specs.Resolved.{numberOf, nameOf, Column, roles, names, numberIn, writtenColumn}
 use Rattle.resolve.proofs.SpanRoles.{contentsStart, RolesFrom, RolesIn, roles-of-spans}
 use Rattle.search.specs.Slots.{slot, operatorSlot, slotOf}
 use Rattle.tree.specs.Built.{slotOfToken}
 use Rattle.node.specs.NodeWords.{Arrays}
 use Rattle.tree.specs.Agreeing.{tokens, Stands, Agrees, ends, leaves, brackets, blocks}
 
--- The numbers of the roles of one fixity.
-abbrev numbers : Arrays → Fixity → List ℕ
-numbers A Prefix = A .prefixes
-numbers A Infix = A .infixes
-numbers A Postfix = A .postfixes
+-- The numbers of one column: of the roles of one fixity, or of quoted names.
+abbrev numbers : Arrays → List ℕ → Column → List ℕ
+numbers A L (roles Prefix) = A .prefixes
+numbers A L (roles Infix) = A .infixes
+numbers A L (roles Postfix) = A .postfixes
+numbers A L names = L
 
 -- The numbers of an item's three roles are its slot.
 item-slot : (T : Table) (x : Item) → slot (numberOf Prefix T x) (numberOf Infix T x) (numberOf Postfix T x) ≡ slotOf T x
@@ -56,44 +57,48 @@ block-checked k T ds ts h =
     let sound = enter-sound T i ds U entered in
     (sound .0, m, subst (λ W. checkBlocks k W m ts ≡ passed tt) (sound .2) inner)
 
-module _ (A : Arrays) where
+module _ (A : Arrays) (L : List ℕ) where
   -- What is known of items, the first of which begins at token `i`: the numbers at their first tokens and in the spans inside them,
   -- and that what is inside was checked. `k` is the fuel of the spans and of the checks.
   record Resolved (k : ℕ) (T : Table) (i : ℕ) (xs : List Item) : Type 0 where
-    roles : (f : Fixity) → RolesFrom f (numbers A f) i T xs
-    inner : (f : Fixity) → All (RolesIn f (numbers A f)) (allItemSpans (spans k) T i xs)
+    numbered : (c : Column) → RolesFrom c (numbers A L c) i T xs
+    inner : (c : Column) → All (RolesIn c (numbers A L c)) (allItemSpans (spans k) T i xs)
     checked : All (CheckedBy (checkBlocks k) T) xs
 
   -- So of the items of a span.
   span-resolved :
       (k : ℕ) (T : Table) (o : Option ℕ) (i m : ℕ) (ts : List Token) → contentsStart o ≡ i → 0 < k
-      → ((f : Fixity) → All (RolesIn f (numbers A f)) (spans k T o i ts)) → checkBlocks k T m ts ≡ passed tt
+      → ((c : Column) → All (RolesIn c (numbers A L c)) (spans k T o i ts)) → checkBlocks k T m ts ≡ passed tt
       → Resolved (pred k) T i (items ts)
   unfolding spans checkBlocks
-  span-resolved zero T o i m ts s l roles e = absurd (omega arith)
-  span-resolved (suc k) T o i m ts s l roles e =
-      record { roles = λ f. rw s at (roles f .0); inner = λ f. roles f .1; checked = checkItems-passed (checkBlocks k) T m (items ts) e }
+  span-resolved zero T o i m ts s l h e = absurd (omega arith)
+  span-resolved (suc k) T o i m ts s l h e =
+      record { numbered = λ c. rw s at (h c .0); inner = λ c. h c .1; checked = checkItems-passed (checkBlocks k) T m (items ts) e }
 
   -- The slot and the spans of the first item, and the items behind it.
   module _ {k : ℕ} {T : Table} {i : ℕ} {x : Item} {xs : List Item} (h : Resolved k T i (x ∷ xs)) where
     first-slot : slotOfToken A i ≡ slotOf T x
-    unfolding slotOfToken numbersFrom
+    unfolding slotOfToken numbersFrom numberIn
     first-slot = rw (first Prefix, first Infix, first Postfix) (item-slot T x)
       where
-        first : (f : Fixity) → getD (numbers A f) i 0 ≡ numberOf f T x
-        first f = ap (λ ns. getD ns 0 0) (h .roles f)
+        first : (f : Fixity) → getD (numbers A L (roles f)) i 0 ≡ numberOf f T x
+        first f = ap (λ ns. getD ns 0 0) (h .numbered (roles f))
 
-    first-spans : (f : Fixity) → All (RolesIn f (numbers A f)) (itemSpans (spans k) T i x)
+    first-name : getD L i 0 ≡ nameOf T x
+    unfolding numbersFrom numberIn
+    first-name = ap (λ ns. getD ns 0 0) (h .numbered names)
+
+    first-spans : (c : Column) → All (RolesIn c (numbers A L c)) (itemSpans (spans k) T i x)
     unfolding allItemSpans
-    first-spans f = all-left (RolesIn f (numbers A f)) (itemSpans (spans k) T i x) _ (h .inner f)
+    first-spans c = all-left (RolesIn c (numbers A L c)) (itemSpans (spans k) T i x) _ (h .inner c)
 
     behind-first : (j : ℕ) → i + length (itemTokens x) ≡ j → Resolved k T j xs
     unfolding numbersFrom allItemSpans
     behind-first j e =
         rw (← e)
         (record {
-          roles = λ f. ap (drop 1) (h .roles f);
-          inner = λ f. all-right (RolesIn f (numbers A f)) (itemSpans (spans k) T i x) _ (h .inner f);
+          numbered = λ c. ap (drop 1) (h .numbered c);
+          inner = λ c. all-right (RolesIn c (numbers A L c)) (itemSpans (spans k) T i x) _ (h .inner c);
           checked = h .checked .1;
         })
 
@@ -101,12 +106,12 @@ module _ (A : Arrays) where
   module _ (text : Bytes) (n : ℕ) (stands : (j : ℕ) → j < n → IsContentKind (getD (A .kinds) j 0) → Stands A text j) where
     range-agrees :
         {i to : ℕ} → Paired (A .kinds) (A .closes) i to → to ≤ n → (k : ℕ) (T : Table) → to - i ≤ k
-        → Resolved k T i (items (tokens A text i to)) → Agrees A text T i to
-    unfolding itemTokens itemSpans contentsStart
+        → Resolved k T i (items (tokens A text i to)) → Agrees A text L T i to
+    unfolding itemTokens itemSpans contentsStart nameOf
     range-agrees done b k T d h = ends
     range-agrees (content {i = i} {to = to} l c p) b k T d h =
         let g = subst (Resolved k T i) (items-content text (A .kinds) (A .starts) (A .sizes) i to l c) h in
-        leaves l (stands i (omega arith) c) (first-slot g)
+        leaves l (stands i (omega arith) c) (first-slot g) (first-name g)
         (range-agrees p b k T (omega arith) (behind-first g (suc i) (omega arith)))
     range-agrees (bracket {i = i} {to = to} c y w l m z p q) b k T d h =
         let ts = tokens A text (suc i) c in
@@ -127,49 +132,51 @@ module _ (A : Arrays) where
         let opener : suc (i + length ds) ≡ c = omega arith in
         blocks c e y w v l m r z x quiet (first-slot g) complete
         (range-agrees p (omega arith) (pred k) (bodyTable T ds) (omega arith)
-        (span-resolved k (bodyTable T ds) (some c) (suc c) first ts refl (omega arith) (λ f. rw opener at (first-spans g f)) checked))
+        (span-resolved k (bodyTable T ds) (some c) (suc c) first ts refl (omega arith) (λ x. rw opener at (first-spans g x)) checked))
         (range-agrees q b k T (omega arith)
         (behind-first g (suc e) (behind-scope text (A .kinds) (A .starts) (A .sizes) i c e l m)))
 
--- What resolving the whole text writes for one fixity, and what is known of the text's items when it has done so for all three.
+-- What resolving the whole text writes in one column, and what is known of the text's items when it has done so in all four.
 module _
-    (A : Arrays) (text : Bytes) (ps : List Placed) (T : Table)
+    (A : Arrays) (text : Bytes) (L : List ℕ) (ps : List Placed) (T : Table)
     (stored : Stored text ps (A .kinds) (A .starts) (A .sizes)) (paired : Paired (A .kinds) (A .closes) 0 (length ps))
   where
     whole-tokens : tokens A text 0 (length ps) ≡ tokensOf ps
     whole-tokens = let o : length ps - 0 ≡ length ps = omega arith in rw o (passed-tokens stored)
 
-    whole-roles :
-        (f : Fixity) (M L : List ℕ) → length ps ≤ length L → M ≡ writtenRoles f (suc (length ps)) T 0 (tokensOf ps) L
-        → All (RolesIn f M) (spans (suc (length ps)) T none 0 (tokensOf ps))
+    whole-column :
+        (c : Column) (M N : List ℕ) → length ps ≤ length N → M ≡ writtenColumn c (suc (length ps)) T 0 (tokensOf ps) N
+        → All (RolesIn c M) (spans (suc (length ps)) T none 0 (tokensOf ps))
     unfolding contentsStart
-    whole-roles f M L l e =
+    whole-column c M N l e =
         rw (e, ← whole-tokens)
-        (roles-of-spans text (A .kinds) (A .starts) (A .sizes) (A .closes) f paired T L l (suc (length ps)) none refl)
+        (roles-of-spans text (A .kinds) (A .starts) (A .sizes) (A .closes) c paired T N l (suc (length ps)) none refl)
 
     whole-agrees :
-        ((f : Fixity) → All (RolesIn f (numbers A f)) (spans (suc (length ps)) T none 0 (tokensOf ps)))
-        → checkBlocks (suc (length ps)) T 0 (tokensOf ps) ≡ passed tt → Agrees A text T 0 (length ps)
+        ((c : Column) → All (RolesIn c (numbers A L c)) (spans (suc (length ps)) T none 0 (tokensOf ps)))
+        → checkBlocks (suc (length ps)) T 0 (tokensOf ps) ≡ passed tt → Agrees A text L T 0 (length ps)
     unfolding contentsStart
-    whole-agrees roles checked =
-        range-agrees A text (length ps)
+    whole-agrees h checked =
+        range-agrees A L text (length ps)
         (λ j l c. record { isContent = c; inText = passed-within stored j l; quotes = passed-quoted stored j l })
         paired (omega arith) (length ps) T (omega arith)
-        (rw whole-tokens (span-resolved A (suc (length ps)) T none 0 0 (tokensOf ps) refl (omega arith) roles checked))
+        (rw whole-tokens (span-resolved A L (suc (length ps)) T none 0 0 (tokensOf ps) refl (omega arith) h checked))
 
 -- The arrays of a text that passed checks 1 to 10 agree with its items.
 pub agreement :
-    (A : Arrays) (text : Bytes) (ps : List Placed) (T : Table) (P I Q : List ℕ)
+    (A : Arrays) (text : Bytes) (L : List ℕ) (ps : List Placed) (T : Table) (P I Q N : List ℕ)
     → Stored text ps (A .kinds) (A .starts) (A .sizes) → Paired (A .kinds) (A .closes) 0 (length ps)
-    → length ps ≤ length P → length ps ≤ length I → length ps ≤ length Q
+    → length ps ≤ length P → length ps ≤ length I → length ps ≤ length Q → length ps ≤ length N
     → checkBlocks (suc (length ps)) T 0 (tokensOf ps) ≡ passed tt
-    → A .prefixes ≡ writtenRoles Prefix (suc (length ps)) T 0 (tokensOf ps) P
-    → A .infixes ≡ writtenRoles Infix (suc (length ps)) T 0 (tokensOf ps) I
-    → A .postfixes ≡ writtenRoles Postfix (suc (length ps)) T 0 (tokensOf ps) Q
-    → Agrees A text T 0 (length ps)
-agreement A text ps T P I Q stored paired p i q checked pre inf post = whole-agrees A text ps T stored paired roles checked
+    → A .prefixes ≡ writtenColumn (roles Prefix) (suc (length ps)) T 0 (tokensOf ps) P
+    → A .infixes ≡ writtenColumn (roles Infix) (suc (length ps)) T 0 (tokensOf ps) I
+    → A .postfixes ≡ writtenColumn (roles Postfix) (suc (length ps)) T 0 (tokensOf ps) Q
+    → L ≡ writtenColumn names (suc (length ps)) T 0 (tokensOf ps) N
+    → Agrees A text L T 0 (length ps)
+agreement A text L ps T P I Q N stored paired p i q n checked pre inf post name = whole-agrees A text L ps T stored paired noted checked
   where
-    roles : (f : Fixity) → All (RolesIn f (numbers A f)) (spans (suc (length ps)) T none 0 (tokensOf ps))
-    roles Prefix = whole-roles A text ps T stored paired Prefix (A .prefixes) P p pre
-    roles Infix = whole-roles A text ps T stored paired Infix (A .infixes) I i inf
-    roles Postfix = whole-roles A text ps T stored paired Postfix (A .postfixes) Q q post
+    noted : (c : Column) → All (RolesIn c (numbers A L c)) (spans (suc (length ps)) T none 0 (tokensOf ps))
+    noted (roles Prefix) = whole-column A text L ps T stored paired (roles Prefix) (A .prefixes) P p pre
+    noted (roles Infix) = whole-column A text L ps T stored paired (roles Infix) (A .infixes) I i inf
+    noted (roles Postfix) = whole-column A text L ps T stored paired (roles Postfix) (A .postfixes) Q q post
+    noted names = whole-column A text L ps T stored paired names L N n name

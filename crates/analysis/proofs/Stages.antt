@@ -15,14 +15,14 @@ use Rattle.grammar.specs.Declaration.{start}
 use Rattle.grammar.specs.Coded.{tokensFrom}
 use Rattle.grammar.specs.Blocks.{checkBlocks}
 use Rattle.grammar.specs.Answer.{tokensOf, offsetOf, longestText, mostTokens, readText, readTokens}
-use Rattle.grammar.proofs.Operators.{distinct-start}
+use Rattle.grammar.proofs.Operators.{distinct-start, alive-start}
 use Rattle.grammar.proofs.RefusalNumbers.{blocks-number}
 use Rattle.grammar.proofs.RefusalPlaces.{nesting-place, blocks-place}
 use Rattle.grammar.proofs.Readings.{length-tokens}
 use Rattle.scan.specs.Tokens.{Scanning, codedScan}
 use Rattle.scan.specs.declared.tokens.Scanned.{Scanned}
 use Rattle.scan.specs.declared.tokens.Scanned.the-variants as Scan
-use Rattle.scan.proofs.Passed.{scanning-stored, passed-fits, passed-tokens, passed-kinds, passed-starts, passed-offset, passed-end}
+use Rattle.scan.proofs.Passed.{scanning-stored, passed-fits, passed-tokens, passed-kinds, passed-starts, passed-front, passed-offset, passed-end}
 use Rattle.nesting.specs.Pairs.{Pairing, codedNesting, tokensBy}
 use Rattle.nesting.specs.declared.Nested.{Nested}
 use Rattle.nesting.specs.declared.Nested.the-variants as Nest
@@ -49,13 +49,13 @@ by-order {X} i n f g = go (ltb i n) refl
 abbrev pub Says : Analysis → ℕ → ℕ → Type 0
 Says a n p = (a .number ≡ n) × (a .offset ≡ p)
 
-pub refusal : (text : Bytes) (A : Arrays) (a : Analysis) (n p : ℕ) → readText text ≡ refused n p → Says a n p → Analysed text A a
-refusal text A a n p e s = rw e s
+pub refusal : (text : Bytes) (A : Arrays) (L R : List ℕ) (a : Analysis) (n p : ℕ) → readText text ≡ refused n p → Says a n p → Analysed text A L R a
+refusal text A L R a n p e s = rw e s
 
 -- Check 1.
-pub too-long : (text : Bytes) (A : Arrays) (a : Analysis) → longestText < length text → Says a 1 longestText → Analysed text A a
+pub too-long : (text : Bytes) (A : Arrays) (L R : List ℕ) (a : Analysis) → longestText < length text → Says a 1 longestText → Analysed text A L R a
 unfolding readText
-too-long text A a l s = refusal text A a 1 longestText (rw (lt-leb (length text) longestText l, readText)) s
+too-long text A L R a l s = refusal text A L R a 1 longestText (rw (lt-leb (length text) longestText l, readText)) s
 
 -- Checks 2 to 5.
 scan-refused : (o : Outcome (List Placed)) (n p : ℕ) → codedScan o ≡ Scan.Refused n p → o ≡ refused n p
@@ -74,10 +74,10 @@ short-reads text l = rw (le-leb (length text) longestText l, readText)
 
 module _ (text : Bytes) (short : length text ≤ longestText) where
   pub not-scanned :
-      (A : Arrays) (a : Analysis) (n p : ℕ) → codedScan (scan mostTokens 0 text) ≡ Scan.Refused n p → Says a n p → Analysed text A a
+      (A : Arrays) (L R : List ℕ) (a : Analysis) (n p : ℕ) → codedScan (scan mostTokens 0 text) ≡ Scan.Refused n p → Says a n p → Analysed text A L R a
   unfolding andThen
-  not-scanned A a n p e s =
-      refusal text A a n p (short-reads text short ∙ rw (scan-refused (scan mostTokens 0 text) n p e)) s
+  not-scanned A L R a n p e s =
+      refusal text A L R a n p (short-reads text short ∙ rw (scan-refused (scan mostTokens 0 text) n p e)) s
 
   pub tokenized :
       (K S Z K′ S′ Z′ : List ℕ) (r : Scanned) (n : ℕ) → Scanning text K S Z K′ S′ Z′ r → r ≡ Scan.Tokens n
@@ -130,12 +130,12 @@ module _ {text : Bytes} {K S Z : List ℕ} {n : ℕ} (t : Tokenized text K S Z n
   nested-reads p = short-reads text (t .short) ∙ rw (t .stored .scanned) (rw p)
 
   pub not-matched :
-      (C C′ : List ℕ) (r : Nested) (A : Arrays) (a : Analysis) (k i : ℕ) → Pairing K n C C′ r → r ≡ Nest.Refused k i
-      → Says a k (offsetIn text S n i) → Analysed text A a
-  not-matched C C′ r A a k i h e s =
+      (C C′ : List ℕ) (r : Nested) (A : Arrays) (L R : List ℕ) (a : Analysis) (k i : ℕ) → Pairing K n C C′ r → r ≡ Nest.Refused k i
+      → Says a k (offsetIn text S n i) → Analysed text A L R a
+  not-matched C C′ r A L R a k i h e s =
       let p = sym tokens-by ∙ nest-refused _ k i (sym (h .answer) ∙ e) in
       let l = nesting-place (tokensOf (t .placed)) k i p in
-      refusal text A a k (offsetOf text (t .placed) i) (nested-reads p)
+      refusal text A L R a k (offsetOf text (t .placed) i) (nested-reads p)
       (s .0, s .1 ∙ offset-in i (omega (arith, t .counted, length-tokens (t .placed))))
 
   pub matched :
@@ -162,19 +162,21 @@ module _ {text : Bytes} {K S Z C : List ℕ} {n : ℕ} (m : Matched text K S Z C
         inArrays = few-tokens (m .scanned);
         paired = m .paired;
         inText = λ j a b. passed-starts (m .scanned .stored) j (omega (arith, m .scanned .counted)) (m .scanned .short);
+        found = λ j a b. passed-front (m .scanned .stored) j (omega (arith, m .scanned .counted));
         sized = h .sized;
         distinct = rw (h .table text) distinct-start;
+        alive = rw (h .table text) alive-start;
         coded = h .coded;
       }
 
   module _
-      (e : E.Table) (h : Starting e) (P I Q P′ I′ Q′ : List ℕ) (r : Checked)
-      (g : Resolve.Resolved text K S Z 0 n e P I Q P′ I′ Q′ r)
+      (e : E.Table) (h : Starting e) (P I Q N P′ I′ Q′ N′ : List ℕ) (r : Checked)
+      (g : Resolve.Resolved text K S Z 0 n e P I Q N P′ I′ Q′ N′ r)
     where
       abbrev blocks : Outcome (Unit {0})
       blocks = checkBlocks (suc (length own)) start 0 (tokensOf own)
 
-      resolving : Resolve.Resolving (suc (length own)) start 0 (tokensOf own) P I Q P′ I′ Q′ r blocks
+      resolving : Resolve.Resolving (suc (length own)) start 0 (tokensOf own) P I Q N P′ I′ Q′ N′ r blocks
       resolving = rw (h .table text, own-tokens) at (g (suc (length own)) (omega (arith, m .scanned .counted)))
 
       blocks-reads : (k p : ℕ) → blocks ≡ refused k p → readText text ≡ refused k (offsetOf text own p)
@@ -183,35 +185,36 @@ module _ {text : Bytes} {K S Z C : List ℕ} {n : ℕ} (m : Matched text K S Z C
           short-reads text (m .scanned .short) ∙ rw (m .scanned .stored .scanned) (rw (m .nested, q))
 
       pub not-resolved :
-          (A : Arrays) (a : Analysis) → (r .number ≡ 0 → ⊥) → Says a (r .number) (offsetIn text S n (r .at)) → Analysed text A a
-      not-resolved A a f s = go blocks refl resolving
+          (A : Arrays) (L R : List ℕ) (a : Analysis) → (r .number ≡ 0 → ⊥) → Says a (r .number) (offsetIn text S n (r .at)) → Analysed text A L R a
+      not-resolved A L R a f s = go blocks refl resolving
         where
-          go : (o : Outcome (Unit {0})) → blocks ≡ o → Resolve.Resolving (suc (length own)) start 0 (tokensOf own) P I Q P′ I′ Q′ r o → Analysed text A a
+          go : (o : Outcome (Unit {0})) → blocks ≡ o → Resolve.Resolving (suc (length own)) start 0 (tokensOf own) P I Q N P′ I′ Q′ N′ r o → Analysed text A L R a
           go (refused k p) b v =
               let l = blocks-place (suc (length own)) start (tokensOf own) k p (m .nested) b in
-              refusal text A a k (offsetOf text own p) (blocks-reads k p b) (
+              refusal text A L R a k (offsetOf text own p) (blocks-reads k p b) (
                 s .0 ∙ v .0,
                 s .1 ∙ ap (offsetIn text S n) (v .1) ∙ offset-in (m .scanned) p (omega (arith, m .scanned .counted, length-tokens own)),
               )
           go (passed u) b v = absurd (f (v .0))
 
       pub resolved :
-          r .number ≡ 0 → length P ≡ 1024 → length I ≡ 1024 → length Q ≡ 1024 → Resolved text (arrays K S Z C P′ I′ Q′) n
-      resolved z p i q = go blocks refl resolving
+          r .number ≡ 0 → length P ≡ 1024 → length I ≡ 1024 → length Q ≡ 1024 → length N ≡ 1024
+          → Resolved text (arrays K S Z C P′ I′ Q′) N′ n
+      resolved z p i q l = go blocks refl resolving
         where
           few : length own ≤ 1024
           few = passed-fits (m .scanned .stored)
 
           go :
-              (o : Outcome (Unit {0})) → blocks ≡ o → Resolve.Resolving (suc (length own)) start 0 (tokensOf own) P I Q P′ I′ Q′ r o
-              → Resolved text (arrays K S Z C P′ I′ Q′) n
-          go (refused k l) b v = absurd (omega (arith, v .0, blocks-number (suc (length own)) start 0 (tokensOf own) k l b))
+              (o : Outcome (Unit {0})) → blocks ≡ o → Resolve.Resolving (suc (length own)) start 0 (tokensOf own) P I Q N P′ I′ Q′ N′ r o
+              → Resolved text (arrays K S Z C P′ I′ Q′) N′ n
+          go (refused k p) b v = absurd (omega (arith, v .0, blocks-number (suc (length own)) start 0 (tokensOf own) k p b))
           go (passed u) b v =
               record {
                 matched = m;
                 declared = b;
                 agrees =
                     rw (m .scanned .counted)
-                    (agreement (arrays K S Z C P′ I′ Q′) text own start P I Q (m .scanned .stored) (rw (m .scanned .counted) at (m .paired))
-                    (omega (arith, few)) (omega (arith, few)) (omega (arith, few)) b (v .1) (v .2) (v .3));
+                    (agreement (arrays K S Z C P′ I′ Q′) text N′ own start P I Q N (m .scanned .stored) (rw (m .scanned .counted) at (m .paired))
+                    (omega (arith, few)) (omega (arith, few)) (omega (arith, few)) (omega (arith, few)) b (v .1) (v .2) (v .3) (v .4));
               }

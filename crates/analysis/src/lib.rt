@@ -6,7 +6,8 @@ use scan::tokens::Scanned;
 use spans::Spans;
 use table::Table;
 ghost use mathlib.Core.Path.{_≡_};
-ghost use Prim.Native.Nat.{_≤_};
+ghost use mathlib.Core.List.{List};
+ghost use Prim.Native.Nat.{ℕ, _≤_};
 ghost use Rattle.node.specs.NodeWords.{arrays};
 ghost use Rattle.analysis.specs.Analysed.{offsetIn, Tokenized, Matched, Resolved, Analysed};
 
@@ -46,7 +47,7 @@ fn offset_of(text: &[u8], starts: &[u16; 1024], count: usize, i: usize) -> usize
     text.len()
 }
 
-// Check 11.
+// Check 11, whatever is known of quoted names (`L`).
 fn analyse_spans(
     text: &[u8],
     kinds: &[u8; 1024],
@@ -57,11 +58,15 @@ fn analyse_spans(
     infixes: &[u16; 1024],
     postfixes: &[u16; 1024],
     count: usize,
+    roots: &mut [u32; 1024],
 ) -> Analysis
-    requires { ⌜ Resolved (now text) (arrays (now kinds) (now starts) (now sizes) (now closes) (now prefixes) (now infixes) (now postfixes)) count ⌝ }
-    ensures { λ r. ⌜ Analysed (now (text .entry)) (arrays (now (kinds .entry)) (now (starts .entry)) (now (sizes .entry)) (now (closes .entry)) (now (prefixes .entry)) (now (infixes .entry)) (now (postfixes .entry))) r ⌝ }
+    requires { ⌜ Matched (now text) (now kinds) (now starts) (now sizes) (now closes) count ⌝ }
+    ensures { λ r. ⌜ ((L : List ℕ)
+        → Resolved (now (text .entry)) (arrays (now (kinds .entry)) (now (starts .entry)) (now (sizes .entry)) (now (closes .entry)) (now (prefixes .entry)) (now (infixes .entry)) (now (postfixes .entry))) L count
+        → Analysed (now (text .entry)) (arrays (now (kinds .entry)) (now (starts .entry)) (now (sizes .entry)) (now (closes .entry)) (now (prefixes .entry)) (now (infixes .entry)) (now (postfixes .entry))) L (now (roots .exit)) r) ⌝ }
 {
-    let checked = spans::check(kinds, closes, prefixes, infixes, postfixes, count);
+    arrays::whole_double_words(roots);
+    let checked = spans::check(kinds, closes, prefixes, infixes, postfixes, count, roots);
     match checked {
         Spans::NoTree => {
             return refused(11, 0);
@@ -91,13 +96,16 @@ fn analyse_matched<'a>(
     prefixes: &mut [u16; 1024],
     infixes: &mut [u16; 1024],
     postfixes: &mut [u16; 1024],
+    listed: &mut [u8; 1024],
+    roots: &mut [u32; 1024],
 ) -> Analysis
     requires { ⌜ Matched (now text) (now kinds) (now starts) (now sizes) (now closes) count ⌝ }
-    ensures { λ r. ⌜ Analysed (now (text .entry)) (arrays (now (kinds .entry)) (now (starts .entry)) (now (sizes .entry)) (now (closes .entry)) (now (prefixes .exit)) (now (infixes .exit)) (now (postfixes .exit))) r ⌝ }
+    ensures { λ r. ⌜ Analysed (now (text .entry)) (arrays (now (kinds .entry)) (now (starts .entry)) (now (sizes .entry)) (now (closes .entry)) (now (prefixes .exit)) (now (infixes .exit)) (now (postfixes .exit))) (now (listed .exit)) (now (roots .exit)) r ⌝ }
 {
     arrays::whole_words(prefixes);
     arrays::whole_words(infixes);
     arrays::whole_words(postfixes);
+    arrays::whole_bytes(listed);
     let c = resolve::resolve(
         text,
         kinds,
@@ -110,6 +118,7 @@ fn analyse_matched<'a>(
         prefixes,
         infixes,
         postfixes,
+        listed,
     );
     if c.number != 0 {
         return refused(c.number, offset_of(text, starts, count, c.at));
@@ -124,6 +133,7 @@ fn analyse_matched<'a>(
         infixes,
         postfixes,
         count,
+        roots,
     )
 }
 
@@ -138,9 +148,11 @@ fn analyse_tokens<'a>(
     prefixes: &mut [u16; 1024],
     infixes: &mut [u16; 1024],
     postfixes: &mut [u16; 1024],
+    listed: &mut [u8; 1024],
+    roots: &mut [u32; 1024],
 ) -> Analysis
     requires { ⌜ Tokenized (now text) (now kinds) (now starts) (now sizes) count ⌝ }
-    ensures { λ r. ⌜ Analysed (now (text .entry)) (arrays (now (kinds .entry)) (now (starts .entry)) (now (sizes .entry)) (now (closes .exit)) (now (prefixes .exit)) (now (infixes .exit)) (now (postfixes .exit))) r ⌝ }
+    ensures { λ r. ⌜ Analysed (now (text .entry)) (arrays (now (kinds .entry)) (now (starts .entry)) (now (sizes .entry)) (now (closes .exit)) (now (prefixes .exit)) (now (infixes .exit)) (now (postfixes .exit))) (now (listed .exit)) (now (roots .exit)) r ⌝ }
 {
     arrays::whole_words(closes);
     let nested = nesting::pair_up(kinds, count, closes);
@@ -159,6 +171,8 @@ fn analyse_tokens<'a>(
                 prefixes,
                 infixes,
                 postfixes,
+                listed,
+                roots,
             );
         }
     }
@@ -174,8 +188,10 @@ pub fn analyse<'a>(
     prefixes: &mut [u16; 1024],
     infixes: &mut [u16; 1024],
     postfixes: &mut [u16; 1024],
+    listed: &mut [u8; 1024],
+    roots: &mut [u32; 1024],
 ) -> Analysis
-    ensures { λ r. ⌜ Analysed (now (text .entry)) (arrays (now (kinds .exit)) (now (starts .exit)) (now (sizes .exit)) (now (closes .exit)) (now (prefixes .exit)) (now (infixes .exit)) (now (postfixes .exit))) r ⌝ }
+    ensures { λ r. ⌜ Analysed (now (text .entry)) (arrays (now (kinds .exit)) (now (starts .exit)) (now (sizes .exit)) (now (closes .exit)) (now (prefixes .exit)) (now (infixes .exit)) (now (postfixes .exit))) (now (listed .exit)) (now (roots .exit)) r ⌝ }
 {
     if 16384 < text.len() {
         return refused(1, 16384);
@@ -199,6 +215,8 @@ pub fn analyse<'a>(
                 prefixes,
                 infixes,
                 postfixes,
+                listed,
+                roots,
             );
         }
     }

@@ -1,4 +1,4 @@
-// Prints the readings of recorded cases: hexadecimal lines on standard input.
+// Prints the listings of recorded cases: hexadecimal lines on standard input.
 fn main() {
     hex_lines::run();
 }

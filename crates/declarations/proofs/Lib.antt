@@ -1,5 +1,7 @@
+pub mod Held
 pub mod Precedences
 pub mod Words
+pub mod Looks
 pub mod Parts
 pub mod Unfit
 pub mod Counts

@@ -1,19 +1,21 @@
--- The parts of a declaration over tokens in arrays. Each part of `declaration` looks at one token: behind the last token and at a token
--- of another kind it refuses, which is one law for all parts; at a token of its kind it goes on, which is a law for each part.
-use mathlib.Core.Path.{_≡_, refl, sym, ap, subst, _∙_}
+-- The parts of a declaration over tokens that the scanner finds at their offsets. Each part of `declaration` looks at one token:
+-- behind the last token and at a token of another kind it refuses, which is one law for all parts; at a token of its kind it goes on,
+-- which is a law for each part.
+use mathlib.Core.Path.{_≡_, refl, sym, ap, _∙_}
 use mathlib.Core.Bool.{Bool, true, false}
+use mathlib.Core.Logic.{⊎-elim}
 use mathlib.Core.List.{List, [], _∷_}
 use mathlib.Core.Option.{none}
 use Prim.Native.Nat.{ℕ, suc, _+_, _-_, _*_, _≤_, _<_}
 use native.Mathlib.Omega.{arith}
 use native.Mathlib.Numerals.{add-one}
 use lib.Dec.{eqb, leb}
-use lib.ListN.{getD}
+use lib.ListN.{drop, getD}
 use borrow.Author.Tests.{le-leb, lt-leb, eq-eqb, ne-eqb, eqb-true, eqb-false, leb-true, leb-false}
 use Rattle.grammar.specs.Bytes.{Bytes, same}
 use Rattle.grammar.specs.Token.{Token, symbol, number, quoted, opening, closing, semicolon, keywordLet, keywordIn, keywordEnd}
 use Rattle.grammar.specs.Operator.{Fixity, Associativity}
-use Rattle.grammar.specs.Coded.{charactersIn, tokenOf, tokenAt, tokensFrom, fixityOf, fixityCode, associativityOf, associativityCode}
+use Rattle.grammar.specs.Coded.{kindOf, charactersIn, tokenOf, tokenAt, tokensFrom, fixityOf, fixityCode, associativityOf, associativityCode}
 use Rattle.grammar.specs.Declaration.{
   Declaration,
   declares,
@@ -33,9 +35,12 @@ use Rattle.grammar.specs.Declaration.{
   declaration,
 }
 use Rattle.grammar.specs.Declaration as D
+use Rattle.scan.specs.Tokens.{TokensFound}
 use Rattle.declarations.specs.declared.parse.Parsed.{Parsed}
 use Rattle.declarations.specs.declared.parse.Parsed.the-variants.{Unfit, Role}
 use Rattle.declarations.specs.Parses.{
+  bytesOf,
+  seenAt,
   expected,
   closedAt,
   operatorAt,
@@ -47,112 +52,84 @@ use Rattle.declarations.specs.Parses.{
 }
 use Rattle.declarations.proofs.Precedences.{precedence-zero, precedence-positive}
 use Rattle.declarations.proofs.Words.{fixity-number, associativity-number}
+use Rattle.declarations.proofs.Looks.{seen-found, token-seen, token-read-by}
 
-module _ (kind : ℕ) (K : List ℕ) (at to k : ℕ) (d : Parsed) where
-  pub expected-end : to ≤ at → expected kind K at to k d ≡ Unfit k
+module _ (kind : ℕ) (text : Bytes) (S : List ℕ) (at to k : ℕ) (d : Parsed) where
+  pub expected-end : to ≤ at → expected kind text S at to k d ≡ Unfit k
   unfolding expected
   expected-end h = rw (le-leb to at h, expected)
 
-  pub expected-here : at < to → getD K at 0 ≡ kind → expected kind K at to k d ≡ d
-  unfolding expected
-  expected-here h e = rw (lt-leb to at h, eq-eqb (getD K at 0) kind e, expected)
+  module _ (seen : ℕ) (e : seen ≡ seenAt text S at .kind) (h : at < to) where
+    pub expected-here : seen ≡ kind → expected kind text S at to k d ≡ d
+    unfolding expected
+    expected-here g = rw (lt-leb to at h, eq-eqb (seenAt text S at .kind) kind (sym e ∙ g), expected)
 
-  pub expected-other : at < to → (getD K at 0 ≡ kind → ⊥) → expected kind K at to k d ≡ Unfit k
-  unfolding expected
-  expected-other h e = rw (lt-leb to at h, ne-eqb (getD K at 0) kind e, expected)
+    pub expected-other : (seen ≡ kind → ⊥) → expected kind text S at to k d ≡ Unfit k
+    unfolding expected
+    expected-other n = rw (lt-leb to at h, ne-eqb (seenAt text S at .kind) kind (λ g. n (e ∙ g)), expected)
 
--- What holds of the token of every kind.
-by-kind :
-    (P : ℕ → Token → Type 0) (c : Bytes) → P 1 (symbol c) → P 2 (number c) → P 3 (quoted c) → P 4 opening → P 5 closing
-    → P 6 semicolon → P 7 keywordLet → P 8 keywordIn → ((k : ℕ) → P k keywordEnd) → (k : ℕ) → P k (tokenOf k c)
-unfolding tokenOf
-by-kind P c p1 p2 p3 p4 p5 p6 p7 p8 p9 k =
-    pick 1 _ _ p1 (pick 2 _ _ p2 (pick 3 _ _ p3 (pick 4 _ _ p4 (pick 5 _ _ p5 (pick 6 _ _ p6 (pick 7 _ _ p7 (pick 8 _ _ p8 (p9 k))))))))
-  where
-    pick : (n : ℕ) (t u : Token) → P n t → P k u → P k (elim (eqb k n) [ true ↦ t | false ↦ u ])
-    pick n t u p q = go (eqb k n) refl
-      where
-        go : (b : Bool) → eqb k n ≡ b → P k (elim b [ true ↦ t | false ↦ u ])
-        go true e = subst (λ j. P j t) (sym (eqb-true k n e)) p
-        go false e = q
+-- What a token of another kind is not.
+symbol-other : (t : Token) → (kindOf t ≡ 1 → ⊥) → symbolOf t ≡ none
+unfolding kindOf symbolOf
+symbol-other (symbol w) n = absurd (n refl)
+symbol-other (number d) n = refl
+symbol-other (quoted c) n = refl
+symbol-other opening n = refl
+symbol-other closing n = refl
+symbol-other semicolon n = refl
+symbol-other keywordLet n = refl
+symbol-other keywordIn n = refl
+symbol-other keywordEnd n = refl
 
-module _ (k : ℕ) (c : Bytes) where
-  pub symbol-other : (k ≡ 1 → ⊥) → symbolOf (tokenOf k c) ≡ none
-  unfolding symbolOf
-  symbol-other =
-      by-kind
-      (λ j t. (j ≡ 1 → ⊥) → symbolOf t ≡ none)
-      c
-      (λ n. absurd (n refl))
-      (λ n. refl)
-      (λ n. refl)
-      (λ n. refl)
-      (λ n. refl)
-      (λ n. refl)
-      (λ n. refl)
-      (λ n. refl)
-      (λ j n. refl)
-      k
+precedence-other : (t : Token) → (kindOf t ≡ 2 → ⊥) → precedenceOf t ≡ none
+unfolding kindOf precedenceOf
+precedence-other (symbol w) n = refl
+precedence-other (number d) n = absurd (n refl)
+precedence-other (quoted c) n = refl
+precedence-other opening n = refl
+precedence-other closing n = refl
+precedence-other semicolon n = refl
+precedence-other keywordLet n = refl
+precedence-other keywordIn n = refl
+precedence-other keywordEnd n = refl
 
-  precedence-other : (k ≡ 2 → ⊥) → precedenceOf (tokenOf k c) ≡ none
-  unfolding precedenceOf
-  precedence-other =
-      by-kind
-      (λ j t. (j ≡ 2 → ⊥) → precedenceOf t ≡ none)
-      c
-      (λ n. refl)
-      (λ n. absurd (n refl))
-      (λ n. refl)
-      (λ n. refl)
-      (λ n. refl)
-      (λ n. refl)
-      (λ n. refl)
-      (λ n. refl)
-      (λ j n. refl)
-      k
-
-  semicolon-other : (k ≡ 6 → ⊥) → isSemicolon (tokenOf k c) ≡ false
-  unfolding isSemicolon
-  semicolon-other =
-      by-kind
-      (λ j t. (j ≡ 6 → ⊥) → isSemicolon t ≡ false)
-      c
-      (λ n. refl)
-      (λ n. refl)
-      (λ n. refl)
-      (λ n. refl)
-      (λ n. refl)
-      (λ n. absurd (n refl))
-      (λ n. refl)
-      (λ n. refl)
-      (λ j n. refl)
-      k
+semicolon-other : (t : Token) → (kindOf t ≡ 6 → ⊥) → isSemicolon t ≡ false
+unfolding kindOf isSemicolon
+semicolon-other (symbol w) n = refl
+semicolon-other (number d) n = refl
+semicolon-other (quoted c) n = refl
+semicolon-other opening n = refl
+semicolon-other closing n = refl
+semicolon-other semicolon n = absurd (n refl)
+semicolon-other keywordLet n = refl
+semicolon-other keywordIn n = refl
+semicolon-other keywordEnd n = refl
 
 -- A part refuses with the token's number behind the last token and at a token of another kind.
 pub record Refuses (part : List Token → D.Parsed) (kind n : ℕ) : Type 0 where
   ended : part [] ≡ unfit n
-  other : (k : ℕ) (c : Bytes) (ts : List Token) → (k ≡ kind → ⊥) → part (tokenOf k c ∷ ts) ≡ unfit n
+  other : (t : Token) (ts : List Token) → (kindOf t ≡ kind → ⊥) → part (t ∷ ts) ≡ unfit n
 
 pub declaration-refuses : Refuses declaration 1 0
 unfolding declaration
-declaration-refuses = record { ended = refl; other = λ k c ts n. rw (symbol-other k c n, declaration) }
+declaration-refuses = record { ended = refl; other = λ t ts n. rw (symbol-other t n, declaration) }
 
 pub associativity-refuses : (f : Fixity) → Refuses (associativityPart f) 1 1
 unfolding associativityPart associativityFor
 associativity-refuses f =
-    record { ended = refl; other = λ k c ts n. rw (symbol-other k c n, associativityPart, associativityFor) }
+    record { ended = refl; other = λ t ts n. rw (symbol-other t n, associativityPart, associativityFor) }
 
 pub precedence-refuses : (f : Fixity) (a : Associativity) → Refuses (precedencePart f a) 2 2
 unfolding precedencePart
-precedence-refuses f a = record { ended = refl; other = λ k c ts n. rw (precedence-other k c n, precedencePart) }
+precedence-refuses f a = record { ended = refl; other = λ t ts n. rw (precedence-other t n, precedencePart) }
 
 operator-refuses : (i : ℕ) (make : Bytes → Declaration) → Refuses (operatorPart i make) 1 i
 unfolding operatorPart
-operator-refuses i make = record { ended = refl; other = λ k c ts n. rw (symbol-other k c n, operatorPart) }
+operator-refuses i make = record { ended = refl; other = λ t ts n. rw (symbol-other t n, operatorPart) }
 
 closed-refuses : (i : ℕ) (d : Declaration) → Refuses (closed i d) 6 i
 unfolding closed
-closed-refuses i d = record { ended = refl; other = λ k c ts n. rw (semicolon-other k c n, closed) }
+closed-refuses i d = record { ended = refl; other = λ t ts n. rw (semicolon-other t n, closed) }
 
 -- What the first word says.
 module _ (w : Bytes) (ts : List Token) where
@@ -209,12 +186,9 @@ role-coded v w d f a p ef nf ea na ep np m =
     cc
 
 module _ (text : Bytes) (K S Z : List ℕ) (to : ℕ) where
-  -- The tokens from number `at` on, and the characters of one of that kind.
+  -- The tokens from number `at` on.
   abbrev pub tokens : ℕ → List Token
   tokens at = tokensFrom text K S Z at (to - at)
-
-  abbrev characters : ℕ → ℕ → Bytes
-  characters kind at = charactersIn text kind (getD S at 0) (getD Z at 0)
 
   pub tokens-end : (at : ℕ) → to ≤ at → tokens at ≡ []
   unfolding tokensFrom
@@ -226,61 +200,86 @@ module _ (text : Bytes) (K S Z : List ℕ) (to : ℕ) where
       let z : to - at ≡ suc (to - suc at) = omega arith in
       ap (tokensFrom text K S Z at) z ∙ ap (λ n. tokenAt text K S Z at ∷ tokens n) (sym e)
 
-  pub tokens-here :
-      (kind at next : ℕ) → next ≡ suc at → at < to → getD K at 0 ≡ kind → (c : Bytes) → c ≡ characters kind at
-      → tokens at ≡ tokenOf kind c ∷ tokens next
-  unfolding tokenAt
-  tokens-here kind at next e h k c g =
-      tokens-next at next e h
-      ∙ ap (λ k. tokenOf k (characters k at) ∷ tokens next) k
-      ∙ ap (λ c. tokenOf kind c ∷ tokens next) (sym g)
+  -- The characters of a token of that kind.
+  abbrev characters : ℕ → ℕ → Bytes
+  characters kind at = charactersIn text kind (getD S at 0) (seenAt text S at .size)
 
-  module _ {part : List Token → D.Parsed} {kind n : ℕ} (refuses : Refuses part kind n) (at : ℕ) where
-    pub part-end : to ≤ at → part (tokens at) ≡ unfit n
-    part-end h = ap part (tokens-end at h) ∙ refuses .ended
+  module _ {from : ℕ} (found : TokensFound text K S Z from to) where
+    module _ (at : ℕ) (low : from ≤ at) where
+      tokens-here :
+          (kind next : ℕ) → next ≡ suc at → at < to → seenAt text S at .kind ≡ kind → (c : Bytes) → c ≡ characters kind at
+          → tokens at ≡ tokenOf kind c ∷ tokens next
+      tokens-here kind next e h k c g =
+          tokens-next at next e h ∙ ap (λ t. t ∷ tokens next) (token-seen text K S Z at (found at low h) kind k c g)
 
-    pub part-other : at < to → (getD K at 0 ≡ kind → ⊥) → part (tokens at) ≡ unfit n
-    unfolding tokenAt
-    part-other h k =
-        ap part (tokens-next at (suc at) refl h) ∙ refuses .other (getD K at 0) (characters (getD K at 0) at) (tokens (suc at)) k
+      -- Where a byte is read, the token is of the kind that was looked for.
+      pub tokens-read :
+          (kind : ℕ) → (kind ≡ 3 → ⊥) → (next : ℕ) → next ≡ suc at → at < to → (w : Bytes)
+          → w ≡ bytesOf kind (drop (getD S at 0) text) → (w ≡ [] → ⊥) → tokens at ≡ tokenOf kind w ∷ tokens next
+      tokens-read kind q next e h w g n =
+          tokens-next at next e h
+          ∙ ap (λ t. t ∷ tokens next)
+          (⊎-elim (λ t. t) (λ t. absurd (n (t .0))) (token-read-by text K S Z at (found at low h) kind q w g))
 
-    -- A part that answers `d` at a token of its kind.
-    part-expected :
-        (d : Parsed) → (at < to → getD K at 0 ≡ kind → codedParsed (part (tokens at)) ≡ d)
-        → codedParsed (part (tokens at)) ≡ expected kind K at to n d
-    unfolding codedParsed
-    part-expected d here = go (leb to at) (eqb (getD K at 0) kind) refl refl
-      where
-        go :
-            (a b : Bool) → leb to at ≡ a → eqb (getD K at 0) kind ≡ b
-            → codedParsed (part (tokens at)) ≡ expected kind K at to n d
-        go true b e g =
-            let h : to ≤ at = leb-true to at e in
-            ap codedParsed (part-end h) ∙ sym (expected-end kind K at to n d h)
-        go false true e g =
-            let h : at < to = leb-false to at e in
-            let k : getD K at 0 ≡ kind = eqb-true (getD K at 0) kind g in
-            here h k ∙ sym (expected-here kind K at to n d h k)
-        go false false e g =
-            let h : at < to = leb-false to at e in
-            let k : getD K at 0 ≡ kind → ⊥ = eqb-false (getD K at 0) kind g in
-            ap codedParsed (part-other h k) ∙ sym (expected-other kind K at to n d h k)
+      module _ {part : List Token → D.Parsed} {kind n : ℕ} (refuses : Refuses part kind n) where
+        pub part-end : to ≤ at → part (tokens at) ≡ unfit n
+        part-end h = ap part (tokens-end at h) ∙ refuses .ended
 
-  -- The end of a declaration goes by the kinds of its tokens.
-  closed-coded : (k : ℕ) (d : Declaration) (at : ℕ) → codedParsed (closed k d (tokens at)) ≡ closedAt K at to k (codedDeclaration d)
-  unfolding codedParsed closed isSemicolon tokenOf
-  closed-coded k d at =
-      part-expected (closed-refuses k d) at (codedDeclaration d)
-      (λ h e. ap (λ ts. codedParsed (closed k d ts)) (tokens-here 6 at (suc at) refl h e (characters 6 at) refl))
+        part-other : at < to → (seenAt text S at .kind ≡ kind → ⊥) → part (tokens at) ≡ unfit n
+        part-other h k =
+            ap part (tokens-next at (suc at) refl h)
+            ∙ refuses .other (tokenAt text K S Z at) (tokens (suc at))
+            (λ e. k (ap (λ s. s .kind) (seen-found text K S Z at (found at low h)) ∙ e))
 
-  pub operator-coded :
-      (k : ℕ) (make : Bytes → Declaration) (d : Parsed) → ((m : Bytes) → codedDeclaration (make m) ≡ d) → (at : ℕ)
-      → codedParsed (operatorPart k make (tokens at)) ≡ operatorAt K at to k d
-  unfolding codedParsed operatorPart symbolOf tokenOf
-  operator-coded k make d same at =
-      part-expected (operator-refuses k make) at (closedAt K (at + 1) to (k + 1) d)
-      (λ h e.
-      ap (λ ts. codedParsed (operatorPart k make ts)) (tokens-here 1 at (at + 1) (add-one at) h e (characters 1 at) refl)
-      ∙ closed-coded (suc k) (make (characters 1 at)) (at + 1)
-      ∙ ap (closedAt K (at + 1) to (suc k)) (same (characters 1 at))
-      ∙ ap (λ i. closedAt K (at + 1) to i d) (sym (add-one k)))
+        -- So it does where what is read makes it refuse.
+        pub part-read :
+            (q : kind ≡ 3 → ⊥) (next : ℕ) → next ≡ suc at → at < to → (w : Bytes) → w ≡ bytesOf kind (drop (getD S at 0) text)
+            → part (tokenOf kind w ∷ tokens next) ≡ unfit n → part (tokens at) ≡ unfit n
+        part-read q next e h w g u =
+            ⊎-elim
+            (λ t. ap part (tokens-next at next e h ∙ ap (λ t. t ∷ tokens next) t) ∙ u)
+            (λ t. ap part (tokens-next at next e h) ∙ refuses .other (tokenAt text K S Z at) (tokens next) (t .1))
+            (token-read-by text K S Z at (found at low h) kind q w g)
+
+        -- A part that answers `d` at a token of its kind.
+        part-expected :
+            (d : Parsed) → (at < to → seenAt text S at .kind ≡ kind → codedParsed (part (tokens at)) ≡ d)
+            → codedParsed (part (tokens at)) ≡ expected kind text S at to n d
+        unfolding codedParsed
+        part-expected d here = go (leb to at) (eqb (seenAt text S at .kind) kind) refl refl
+          where
+            go :
+                (a b : Bool) → leb to at ≡ a → eqb (seenAt text S at .kind) kind ≡ b
+                → codedParsed (part (tokens at)) ≡ expected kind text S at to n d
+            go true b e g =
+                let h : to ≤ at = leb-true to at e in
+                ap codedParsed (part-end h) ∙ sym (expected-end kind text S at to n d h)
+            go false true e g =
+                let h : at < to = leb-false to at e in
+                let k : seenAt text S at .kind ≡ kind = eqb-true (seenAt text S at .kind) kind g in
+                here h k ∙ sym (expected-here kind text S at to n d _ refl h k)
+            go false false e g =
+                let h : at < to = leb-false to at e in
+                let k : seenAt text S at .kind ≡ kind → ⊥ = eqb-false (seenAt text S at .kind) kind g in
+                ap codedParsed (part-other h k) ∙ sym (expected-other kind text S at to n d _ refl h k)
+
+    -- The end of a declaration goes by the kinds of its tokens.
+    closed-coded :
+        (k : ℕ) (d : Declaration) (at : ℕ) → from ≤ at
+        → codedParsed (closed k d (tokens at)) ≡ closedAt text S at to k (codedDeclaration d)
+    unfolding codedParsed closed isSemicolon tokenOf
+    closed-coded k d at low =
+        part-expected at low (closed-refuses k d) (codedDeclaration d)
+        (λ h e. ap (λ ts. codedParsed (closed k d ts)) (tokens-here at low 6 (suc at) refl h e (characters 6 at) refl))
+
+    pub operator-coded :
+        (k : ℕ) (make : Bytes → Declaration) (d : Parsed) → ((m : Bytes) → codedDeclaration (make m) ≡ d) → (at : ℕ) → from ≤ at
+        → codedParsed (operatorPart k make (tokens at)) ≡ operatorAt text S at to k d
+    unfolding codedParsed operatorPart symbolOf tokenOf
+    operator-coded k make d same at low =
+        part-expected at low (operator-refuses k make) (closedAt text S (at + 1) to (k + 1) d)
+        (λ h e.
+        ap (λ ts. codedParsed (operatorPart k make ts)) (tokens-here at low 1 (at + 1) (add-one at) h e (characters 1 at) refl)
+        ∙ closed-coded (suc k) (make (characters 1 at)) (at + 1) (omega arith)
+        ∙ ap (closedAt text S (at + 1) to (suc k)) (same (characters 1 at))
+        ∙ ap (λ i. closedAt text S (at + 1) to i d) (sym (add-one k)))

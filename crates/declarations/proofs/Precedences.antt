@@ -23,6 +23,11 @@ pub coded-value : (d : Bytes) → precedenceCode d ≡ coded (valueFrom 0 d)
 unfolding precedenceCode isPrecedence value coded
 coded-value d = refl
 
+-- No digits are no precedence.
+pub precedence-empty : precedenceCode [] ≡ 0
+unfolding precedenceCode isPrecedence value valueFrom
+precedence-empty = refl
+
 pub coded-low : (v : ℕ) → v ≤ widestPrecedence → coded v ≡ v
 unfolding coded
 coded-low zero h = refl

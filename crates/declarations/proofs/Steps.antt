@@ -1,19 +1,18 @@
 -- One declaration in the arrays of tokens: its tokens are the first ones, so its operator's name is a part of the text, and the checks
 -- behind it go on at the token that follows, with less fuel.
 use mathlib.Core.Path.{_≡_, refl, sym, ap, subst, _∙_}
-use mathlib.Core.Bool.{Bool, true, false}
+use mathlib.Core.Bool.{true, false}
 use mathlib.Core.List.{List, [], _∷_, _++_}
-use mathlib.Core.Option.{none, some}
+use mathlib.Core.Option.{some}
 use Prim.Native.Nat.{ℕ, zero, suc, _+_, _-_, _*_, _/_, _%_, _≤_, _<_}
 use native.Mathlib.Omega.{arith}
-use lib.Dec.{eqb}
 use lib.ListN.{length, take, drop, getD}
-use borrow.Author.Tests.{le-leb, lt-leb, eqb-true, eqb-false}
+use borrow.Author.Tests.{le-leb, lt-leb}
 use Rattle.grammar.specs.Bytes.{Bytes}
 use Rattle.grammar.specs.Token.{Token, symbol, number, semicolon}
 use Rattle.grammar.specs.Outcome.{Outcome, refused, passed}
 use Rattle.grammar.specs.Operator.{Fixity, Prefix, Infix, Postfix, Associativity, left, right, non, Role, Table, declareRole, removeRoles, lawfulTable, Distinct}
-use Rattle.grammar.specs.Coded.{charactersIn, tokenOf, tokenAt, tokensFrom, fixityOf, fixityCode, associativityOf, associativityCode, roleCode, roleOf}
+use Rattle.grammar.specs.Coded.{tokenAt, tokensFrom, fixityOf, fixityCode, associativityOf, associativityCode, roleCode, roleOf}
 use Rattle.grammar.specs.Declaration.{
   Declaration,
   declares,
@@ -26,7 +25,6 @@ use Rattle.grammar.specs.Declaration.{
   areDeclarations,
   unfit,
   parsed,
-  symbolOf,
   declaration,
   operatorPlace,
   mostOperators,
@@ -39,6 +37,7 @@ use Rattle.grammar.specs.Answer.{longestText}
 use Rattle.grammar.proofs.Declarations.{declaration-sound, enter-end, enter-step}
 use Rattle.grammar.proofs.EnterComplete.{enter-fuel, unfit-refused}
 use Rattle.grammar.proofs.Operators.{distinct-declared}
+use Rattle.scan.specs.Tokens.{TokensFound}
 use Rattle.table.specs.Entries.{nameIn, IsCode}
 use Rattle.table.proofs.Laws.{name-in-text}
 use Rattle.table.proofs.Roles.{a-role}
@@ -46,7 +45,8 @@ use Rattle.declarations.specs.declared.parse.Parsed.the-variants.{Unfit,
 use Rattle.declarations.specs.declared.parse.Parsed.the-variants as P
 use Rattle.declarations.specs.Parses.{codedParsed, codedDeclaration}
 use Rattle.declarations.specs.Entering.{InText}
-use Rattle.declarations.proofs.Parts.{symbol-other, tokens, tokens-end}
+use Rattle.declarations.proofs.Looks.{symbol-bytes}
+use Rattle.declarations.proofs.Parts.{tokens, tokens-end}
 use Rattle.declarations.proofs.Unfit.{was-unfit}
 
 -- Codes give back what they stand for.
@@ -102,30 +102,15 @@ module _ (text : Bytes) (K S Z : List ℕ) where
       let m : suc n - suc (length ts) ≡ n - length ts = omega arith in
       (omega arith, r ∙ sym (rw (j, m) refl))
 
-  -- A token that is a symbol is a part of the text.
-  symbol-at : (i : ℕ) (m : Bytes) → tokenAt text K S Z i ≡ symbol m → m ≡ take (getD Z i 0) (drop (getD S i 0) text)
-  unfolding tokenAt tokenOf charactersIn symbolOf
-  symbol-at i m e = go (eqb (getD K i 0) 1) refl
-    where
-      go : (b : Bool) → eqb (getD K i 0) 1 ≡ b → m ≡ take (getD Z i 0) (drop (getD S i 0) text)
-      go true k =
-          let h : getD K i 0 ≡ 1 = eqb-true (getD K i 0) 1 k in
-          let q : symbol (take (getD Z i 0) (drop (getD S i 0) text)) ≡ symbol m =
-          sym (ap (λ k. tokenOf k (charactersIn text k (getD S i 0) (getD Z i 0))) h) ∙ e in
-          cc
-      go false k =
-          let c = charactersIn text (getD K i 0) (getD S i 0) (getD Z i 0) in
-          let q : none ≡ some m = sym (symbol-other (getD K i 0) c (eqb-false (getD K i 0) 1 k)) ∙ ap symbolOf e in
-          cc
-
-  -- So is one in front of which others stand.
+  -- A symbol in front of which other tokens stand is a part of the text.
   symbol-behind :
-      (ts : List Token) (i n : ℕ) (m : Bytes) (rest : List Token) → run i n ≡ ts ++ symbol m ∷ rest
+      (ts : List Token) (i n : ℕ) (m : Bytes) (rest : List Token) → TokensFound text K S Z i (i + n) → run i n ≡ ts ++ symbol m ∷ rest
       → m ≡ take (getD Z (i + length ts) 0) (drop (getD S (i + length ts) 0) text)
   unfolding tokensFrom
-  symbol-behind ts i n m rest e =
+  symbol-behind ts i n m rest found e =
       let (l, r) = run-behind ts i n (symbol m ∷ rest) e in
-      symbol-at (i + length ts) m (first (n - length ts) r)
+      let w : suc (length rest) ≡ n - length ts = ap length r ∙ run-length (i + length ts) (n - length ts) in
+      symbol-bytes text K S Z (i + length ts) (found (i + length ts) (omega arith) (omega arith)) m (first (n - length ts) r)
     where
       first : (k : ℕ) → symbol m ∷ rest ≡ run (i + length ts) k → tokenAt text K S Z (i + length ts) ≡ symbol m
       first zero r = cc
@@ -135,8 +120,9 @@ module _ (text : Bytes) (K S Z : List ℕ) (to : ℕ) where
   abbrev tokensAt : ℕ → List Token
   tokensAt = tokens text K S Z to
 
-  abbrev nameAt : ℕ → Bytes
-  nameAt i = nameIn text (getD S i 0) (getD Z i 0)
+  -- The name of `size` bytes at a token's offset.
+  abbrev nameAt : ℕ → ℕ → Bytes
+  nameAt i size = nameIn text (getD S i 0) size
 
   -- What the checks answer of the tokens from number `at` on, under the operators `T`.
   abbrev pub entered : Table → ℕ → Outcome Table
@@ -171,14 +157,17 @@ module _ (text : Bytes) (K S Z : List ℕ) (to : ℕ) where
     pub passes : (T : Table) → length (change T) ≤ mostOperators → entered T at ≡ entered (change T) (at + size)
     pub distinct : (T : Table) → Distinct T → Distinct (change T)
 
-  pub record RoleAt (at f role : ℕ) : Type 0 where
+  pub record RoleAt (at f role size : ℕ) : Type 0 where
     pub isRole : 0 < role
     pub declared : Role
     pub coded : roleOf role ≡ some declared
     pub isCode : IsCode role
-    pub step : DeclarationAt at (declareRole (nameAt (at + 3)) (fixityOf f) declared) 3 5
+    pub step : DeclarationAt at (declareRole (nameAt (at + 3) size) (fixityOf f) declared) 3 5
 
-  module _ (at : ℕ) (h : at < to) (inText : InText S at to) where
+  module _ (at : ℕ) (h : at < to) (inText : InText S at to) (found : TokensFound text K S Z at to) where
+    within : TokensFound text K S Z at (at + (to - at))
+    within j low high = found j low (omega arith)
+
     declaration-at :
         (d : Declaration) (rest : List Token) → declaration (tokensAt at) ≡ parsed d rest
         → DeclarationAt at (λ T. declare T d) (operatorPlace d) (length (declarationTokens d))
@@ -217,21 +206,24 @@ module _ (text : Bytes) (K S Z : List ℕ) (to : ℕ) where
             ∙ enter-fuel (to - suc at) (to - (at + size)) (declare T d) (at + size) (tokensAt (at + size)) (omega arith) (omega arith)
 
     -- A role that is declared ..
-    pub role-at : (f role : ℕ) → codedParsed (declaration (tokensAt at)) ≡ P.Role f role → RoleAt at f role
+    pub role-at :
+        (f role : ℕ) → codedParsed (declaration (tokensAt at)) ≡ P.Role f role → (size : ℕ) → size ≡ getD Z (at + 3) 0
+        → RoleAt at f role size
     unfolding codedParsed codedDeclaration declare operatorPlace declarationTokens roleCode
-    role-at f role = go (declaration (tokensAt at)) refl
+    role-at f role said size z = go (declaration (tokensAt at)) refl said
       where
-        go : (p : D.Parsed) → declaration (tokensAt at) ≡ p → codedParsed p ≡ P.Role f role → RoleAt at f role
+        go : (p : D.Parsed) → declaration (tokensAt at) ≡ p → codedParsed p ≡ P.Role f role → RoleAt at f role size
         go (unfit n) e c = let z : _≡_ {A = ℕ} 0 1 = cc in absurd (omega arith)
         go (parsed (clears m) rest) e c = let z : _≡_ {A = ℕ} 0 1 = cc in absurd (omega arith)
         go (parsed (declares g a v m) rest) e c =
             let w = declaration-at (declares g a v m) rest e in
             let k : value v * 4 + associativityCode a ≡ role = cc in
             let x : g ≡ fixityOf f = sym (fixity-back g) ∙ ap fixityOf (cc) in
-            let n : m ≡ nameAt (at + 3) =
-            symbol-behind text K S Z (symbol _ ∷ symbol _ ∷ number v ∷ []) at (to - at) m (semicolon ∷ rest)
+            let n : m ≡ nameAt (at + 3) size =
+            symbol-behind text K S Z (symbol _ ∷ symbol _ ∷ number v ∷ []) at (to - at) m (semicolon ∷ rest) within
             (declaration-sound (tokensAt at) (declares g a v m) rest e .0)
-            ∙ sym (name-in-text text (getD S (at + 3) 0) (getD Z (at + 3) 0) (w .inText)) in
+            ∙ ap (λ z. take z (drop (getD S (at + 3) 0) text)) (sym z)
+            ∙ sym (name-in-text text (getD S (at + 3) 0) size (w .inText)) in
             let q : Role = record { precedence = value v; associativity = a } in
             record {
               isRole = omega (arith, associativity-back a .0);
@@ -242,19 +234,22 @@ module _ (text : Bytes) (K S Z : List ℕ) (to : ℕ) where
             }
 
     -- .. and one that is cleared.
-    pub clears-at : codedParsed (declaration (tokensAt at)) ≡ Clears → DeclarationAt at (removeRoles (nameAt (at + 1))) 1 3
+    pub clears-at :
+        codedParsed (declaration (tokensAt at)) ≡ Clears → (size : ℕ) → size ≡ getD Z (at + 1) 0
+        → DeclarationAt at (removeRoles (nameAt (at + 1) size)) 1 3
     unfolding codedParsed codedDeclaration declare operatorPlace declarationTokens
-    clears-at = go (declaration (tokensAt at)) refl
+    clears-at said size z = go (declaration (tokensAt at)) refl said
       where
         go :
             (p : D.Parsed) → declaration (tokensAt at) ≡ p → codedParsed p ≡ Clears
-            → DeclarationAt at (removeRoles (nameAt (at + 1))) 1 3
+            → DeclarationAt at (removeRoles (nameAt (at + 1) size)) 1 3
         go (unfit n) e c = let z : _≡_ {A = ℕ} 0 1 = cc in absurd (omega arith)
         go (parsed (declares g a v m) rest) e c = let z : _≡_ {A = ℕ} 0 1 = cc in absurd (omega arith)
         go (parsed (clears m) rest) e c =
             let w = declaration-at (clears m) rest e in
-            let n : m ≡ nameAt (at + 1) =
-            symbol-behind text K S Z (symbol _ ∷ []) at (to - at) m (semicolon ∷ rest)
+            let n : m ≡ nameAt (at + 1) size =
+            symbol-behind text K S Z (symbol _ ∷ []) at (to - at) m (semicolon ∷ rest) within
             (declaration-sound (tokensAt at) (clears m) rest e .0)
-            ∙ sym (name-in-text text (getD S (at + 1) 0) (getD Z (at + 1) 0) (w .inText)) in
+            ∙ ap (λ z. take z (drop (getD S (at + 1) 0) text)) (sym z)
+            ∙ sym (name-in-text text (getD S (at + 1) 0) size (w .inText)) in
             subst (λ change. DeclarationAt at change 1 3) (λ i T. removeRoles (n i) T) w

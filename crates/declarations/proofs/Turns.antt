@@ -61,12 +61,9 @@ module _ {text : Bytes} {K S Z : List ℕ} {from to : ℕ} {t₀ t : Table} {at 
         }
 
   -- A role, for which there is room or not.
-  module _ (f code : ℕ) (role : RoleAt text K S Z to at f code) where
+  module _ (f code size : ℕ) (role : RoleAt text K S Z to at f code size) where
     abbrev start : ℕ
     start = getD S (at + 3) 0
-
-    abbrev size : ℕ
-    size = getD Z (at + 3) 0
 
     pub declared-over : (u : Table) → Declared text t start size f code u → Progress text K S Z from to t₀ u (at + 5)
     declared-over u d = passed-over (role .step) u (d .sized) (λ h. d .coded h (role .isCode)) (d .table (role .declared) (role .coded))
@@ -93,11 +90,11 @@ module _ {text : Bytes} {K S Z : List ℕ} {from to : ℕ} {t₀ t : Table} {at 
           }
 
   -- A name that is cleared.
-  module _ (step : DeclarationAt text K S Z to at (removeRoles (nameIn text (getD S (at + 1) 0) (getD Z (at + 1) 0))) 1 3) where
-    pub clearable : Clearable text t (getD S (at + 1) 0) (getD Z (at + 1) 0)
+  module _ (size : ℕ) (step : DeclarationAt text K S Z to at (removeRoles (nameIn text (getD S (at + 1) 0) size)) 1 3) where
+    pub clearable : Clearable text t (getD S (at + 1) 0) size
     clearable = record { sized = inv .sized; inText = step .inText; distinct = inv .distinct }
 
-    pub cleared-over : (u : Table) → Cleared text t (getD S (at + 1) 0) (getD Z (at + 1) 0) u → Progress text K S Z from to t₀ u (at + 3)
+    pub cleared-over : (u : Table) → Cleared text t (getD S (at + 1) 0) size u → Progress text K S Z from to t₀ u (at + 3)
     cleared-over u d = passed-over step u (d .sized) (d .coded) (d .table)
 
   -- Behind the last declaration.

@@ -1,6 +1,7 @@
 -- The words of declarations as numbers: what each word's number is, and what a number says of the word.
 use mathlib.Core.Path.{_≡_, refl, sym, ap, _∙_}
 use mathlib.Core.Bool.{Bool, true, false}
+use mathlib.Core.List.{[]}
 use mathlib.Core.Option.{Option, none, some}
 use Prim.Native.Nat.{ℕ, _≤_}
 use native.Mathlib.Omega.{arith}
@@ -93,6 +94,15 @@ module _ (f : ℕ) (w : Bytes) where
       pub associativity-none : same w (bytes "non") ≡ false → associativityNumber f w ≡ 0
       unfolding associativityNumber associativityNamed associativityWord
       associativity-none g = rw (e, h, g, associativityNumber, associativityNamed)
+
+-- No bytes are no word.
+pub fixity-empty : fixityNumber [] ≡ 0
+unfolding fixityNumber fixityNamed fixityWord same
+fixity-empty = refl
+
+pub associativity-empty : (f : ℕ) → associativityNumber f [] ≡ 0
+unfolding associativityNumber associativityNamed associativityWord same
+associativity-empty f = refl
 
 -- A number stands for what was found: 0 for nothing, any other for what it is the code of.
 pub record StandsFor {A : Type 0} (of : ℕ → A) (code : A → ℕ) (o : Option A) (n : ℕ) : Type 0 where

@@ -14,6 +14,7 @@ use Rattle.grammar.specs.Answer.{longestText}
 use Rattle.table.specs.Entries.{operatorsFrom, tableOf, Sized}
 use Rattle.table.specs.declared.Table.{Table}
 use Rattle.declarations.specs.declared.enter.Entered.{Entered}
+use Rattle.declarations.specs.Parses.{InArrays}
 
 -- Whether `n` operators with a role declared for that name would be more than 64: which role, and which the others are, plays no part.
 abbrev pub Full : Bytes → List ℕ → List ℕ → ℕ → Bytes → Bool → Type 0
@@ -27,8 +28,7 @@ InText S from to = (j : ℕ) → from ≤ j → j < to → getD S j 0 < longestT
 
 -- What entering a block asks.
 pub record Enterable (text : Bytes) (S : List ℕ) (from to : ℕ) (t : Table) : Type 0 where
-  pub ordered : from ≤ to
-  pub inArrays : to ≤ 1024
+  pub tokens : InArrays text S from to
   pub inText : InText S from to
   pub sized : Sized t
   pub distinct : Distinct (tableOf text t)

@@ -1,14 +1,16 @@
 // The declarations of a block, one after the other: document 01's refusals 8, 9 and 10.
 use crate::parse;
 use crate::parse::Parsed;
-use scan::tokens;
+use crate::walk;
 use table::Found;
 use table::Table;
-ghost use Prim.Native.Nat.{_-_, _≤_};
+ghost use mathlib.Core.List.{List};
+ghost use Prim.Native.Nat.{ℕ, _-_, _≤_};
 ghost use lib.ListN.{take, drop};
 ghost use Rattle.grammar.specs.Coded.{tokensFrom};
 ghost use Rattle.grammar.specs.Declaration.{enter as enterTokens};
 ghost use Rattle.table.specs.Entries.{tableOf, Coded};
+ghost use Rattle.scan.specs.Tokens.{TokensFound};
 ghost use Rattle.declarations.specs.Entering.{Full, Enterable, Entering};
 
 // The table behind the declarations with number 0, or the number of a refusal and of its token.
@@ -33,34 +35,34 @@ fn is_full<'a>(
     if count < 64 {
         return false;
     }
-    let name = tokens::cut(text, start as usize, size as usize);
+    let name = walk::bytes_at(text, start as usize, size as usize);
     match table::find(text, starts, sizes, count, name) {
         Found::At(_) => false,
         Found::Nothing => true,
     }
 }
 
-// The declarations of the tokens from `from` to `to`, under the operators of `outer`.
+// The declarations of the tokens from `from` to `to`, under the operators of `outer`. What lists hold the tokens' kinds and lengths
+// plays no part.
 pub fn enter<'a>(
     text: &[u8],
-    kinds: &'a [u8; 1024],
     starts: &'a [u16; 1024],
-    sizes: &'a [u8; 1024],
     from: usize,
     to: usize,
     outer: Table,
 ) -> Entered
     requires { ⌜ Enterable (now text) (now starts) from to outer ⌝ }
-    ensures entered { λ r. ⌜ Entering (now (text .entry))
+    ensures entered { λ r. ⌜ ((K Z : List ℕ) → TokensFound (now (text .entry)) K (now (starts .entry)) Z from to
+        → Entering (now (text .entry))
         (enterTokens (to - from) (tableOf (now (text .entry)) outer) from
-        (tokensFrom (now (text .entry)) (now (kinds .entry)) (now (starts .entry)) (now (sizes .entry)) from (to - from)))
-        r ⌝ }
+        (tokensFrom (now (text .entry)) K (now (starts .entry)) Z from (to - from)))
+        r) ⌝ }
     ensures coded { λ r. ⌜ (Coded outer → Coded (r .table)) ⌝ }
 {
     let mut t = outer;
     let mut at = from;
     while at < to {
-        let d = parse::declaration_at(text, kinds, starts, sizes, at, to);
+        let d = parse::declaration_at(text, starts, at, to);
         match d {
             Parsed::Unfit(n) => {
                 return Entered {
@@ -71,20 +73,22 @@ pub fn enter<'a>(
             }
             Parsed::Role(f, role) => {
                 let m = at + 3;
+                let operator = walk::look(text, starts[m]);
                 let count = t.count;
-                if is_full(text, &t.starts, &t.sizes, count, starts[m], sizes[m]) {
+                if is_full(text, &t.starts, &t.sizes, count, starts[m], operator.size) {
                     return Entered {
                         number: 9,
                         at: m,
                         table: t,
                     };
                 }
-                t = t.declare(text, starts[m], sizes[m], f, role);
+                t = t.declare(text, starts[m], operator.size, f, role);
                 at += 5;
             }
             Parsed::Clears => {
                 let m = at + 1;
-                t = t.clear(text, starts[m], sizes[m]);
+                let operator = walk::look(text, starts[m]);
+                t = t.clear(text, starts[m], operator.size);
                 at += 3;
             }
         }

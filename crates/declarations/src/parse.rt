@@ -1,10 +1,12 @@
-// One declaration at the front of a declaration part.
+// One declaration at the front of a declaration part. Its tokens are walked: what stands at a token's offset is asked of the text.
+use crate::walk;
 use scan::bytes;
-use scan::tokens;
 ghost use mathlib.Core.Path.{_≡_};
-ghost use Prim.Native.Nat.{_≤_, _-_};
+ghost use mathlib.Core.List.{List};
+ghost use Prim.Native.Nat.{ℕ, _≤_, _-_};
 ghost use Rattle.grammar.specs.Coded.{tokensFrom};
 ghost use Rattle.grammar.specs.Declaration.{declaration};
+ghost use Rattle.scan.specs.Tokens.{TokensFound};
 ghost use Rattle.declarations.specs.Parses.{precedenceCode, fixityNumber, associativityNumber, codedParsed, closedAt, operatorAt, InArrays};
 
 // What a declaration part begins with: the number of the first token that does not fit, counted from the front; a role, by its
@@ -78,54 +80,61 @@ pub fn associativity_named(fixity: u8, word: &[u8]) -> u8
 }
 
 // The `;` that ends a declaration, token number `k` of it, at `at`.
-fn closed<'a>(kinds: &'a [u8; 1024], at: usize, to: usize, k: usize, d: Parsed) -> Parsed
+fn closed<'a>(
+    text: &[u8],
+    starts: &'a [u16; 1024],
+    at: usize,
+    to: usize,
+    k: usize,
+    d: Parsed,
+) -> Parsed
     requires { ⌜ to ≤ 1024 ⌝ }
-    ensures { λ r. ⌜ r ≡ closedAt (now (kinds .entry)) at to k d ⌝ }
+    ensures { λ r. ⌜ r ≡ closedAt (now (text .entry)) (now (starts .entry)) at to k d ⌝ }
 {
     if to <= at {
         return Parsed::Unfit(k);
     }
-    if kinds[at] == 6 {
+    let token = walk::look(text, starts[at]);
+    if token.kind == 6 {
         return d;
     }
     Parsed::Unfit(k)
 }
 
 // The operator, token number `k`, at `at`, and the `;` behind it.
-fn operator_part<'a>(kinds: &'a [u8; 1024], at: usize, to: usize, k: usize, d: Parsed) -> Parsed
+fn operator_part<'a>(
+    text: &[u8],
+    starts: &'a [u16; 1024],
+    at: usize,
+    to: usize,
+    k: usize,
+    d: Parsed,
+) -> Parsed
     requires { ⌜ (to ≤ 1024) × (k ≤ 3) ⌝ }
-    ensures { λ r. ⌜ r ≡ operatorAt (now (kinds .entry)) at to k d ⌝ }
+    ensures { λ r. ⌜ r ≡ operatorAt (now (text .entry)) (now (starts .entry)) at to k d ⌝ }
 {
     if to <= at {
         return Parsed::Unfit(k);
     }
-    if kinds[at] == 1 {
-        return closed(kinds, at + 1, to, k + 1, d);
+    let token = walk::look(text, starts[at]);
+    if token.kind == 1 {
+        return closed(text, starts, at + 1, to, k + 1, d);
     }
     Parsed::Unfit(k)
 }
 
-// The declaration at the front of the tokens from `from` to `to`.
-pub fn declaration_at<'a>(
-    text: &[u8],
-    kinds: &'a [u8; 1024],
-    starts: &'a [u16; 1024],
-    sizes: &'a [u8; 1024],
-    from: usize,
-    to: usize,
-) -> Parsed
-    requires { ⌜ InArrays from to ⌝ }
-    ensures { λ r. ⌜ r ≡ codedParsed (declaration (tokensFrom (now (text .entry)) (now (kinds .entry)) (now (starts .entry)) (now (sizes .entry)) from (to - from))) ⌝ }
+// The declaration at the front of the tokens from `from` to `to`, whatever lists hold their kinds and lengths.
+pub fn declaration_at<'a>(text: &[u8], starts: &'a [u16; 1024], from: usize, to: usize) -> Parsed
+    requires { ⌜ InArrays (now text) (now starts) from to ⌝ }
+    ensures { λ r. ⌜ ((K Z : List ℕ) → TokensFound (now (text .entry)) K (now (starts .entry)) Z from to
+        → r ≡ codedParsed (declaration (tokensFrom (now (text .entry)) K (now (starts .entry)) Z from (to - from)))) ⌝ }
 {
     if to <= from {
         return Parsed::Unfit(0);
     }
-    if kinds[from] != 1 {
-        return Parsed::Unfit(0);
-    }
-    let word = tokens::characters(text, 1, starts[from], sizes[from]);
+    let word = walk::bytes_of(text, starts[from], 1);
     if bytes::equal(word, b"plain") {
-        return operator_part(kinds, from + 1, to, 1, Parsed::Clears);
+        return operator_part(text, starts, from + 1, to, 1, Parsed::Clears);
     }
     let f = fixity_named(word);
     if f == 0 {
@@ -135,10 +144,7 @@ pub fn declaration_at<'a>(
     if to <= i {
         return Parsed::Unfit(1);
     }
-    if kinds[i] != 1 {
-        return Parsed::Unfit(1);
-    }
-    let a = associativity_named(f, tokens::characters(text, 1, starts[i], sizes[i]));
+    let a = associativity_named(f, walk::bytes_of(text, starts[i], 1));
     if a == 0 {
         return Parsed::Unfit(1);
     }
@@ -146,12 +152,16 @@ pub fn declaration_at<'a>(
     if to <= j {
         return Parsed::Unfit(2);
     }
-    if kinds[j] != 2 {
-        return Parsed::Unfit(2);
-    }
-    let p = precedence(tokens::characters(text, 2, starts[j], sizes[j]));
+    let p = precedence(walk::bytes_of(text, starts[j], 2));
     if p == 0 {
         return Parsed::Unfit(2);
     }
-    operator_part(kinds, from + 3, to, 3, Parsed::Role(f, p * 4 + (a as u16)))
+    operator_part(
+        text,
+        starts,
+        from + 3,
+        to,
+        3,
+        Parsed::Role(f, p * 4 + (a as u16)),
+    )
 }

@@ -154,14 +154,14 @@ twelve-exactly text b = (
 )
 
 -- The test of 13.
-too-long : (b : List ℕ) (c : Bytes) → leb (length c) (length b) && leb (length c) longestText ≡ false → (length b < length c) ⊎ (longestText < length c)
+pub too-long : (b : List ℕ) (c : Bytes) → leb (length c) (length b) && leb (length c) longestText ≡ false → (length b < length c) ⊎ (longestText < length c)
 too-long b c e = go (leb (length c) (length b)) refl
   where
     go : (t : Bool) → leb (length c) (length b) ≡ t → (length b < length c) ⊎ (longestText < length c)
     go true q = inr (leb-false (length c) longestText (rw q at e))
     go false q = inl (leb-false (length c) (length b) q)
 
-not-short : (b : List ℕ) (c : Bytes) → (length b < length c) ⊎ (longestText < length c) → leb (length c) (length b) && leb (length c) longestText ≡ false
+pub not-short : (b : List ℕ) (c : Bytes) → (length b < length c) ⊎ (longestText < length c) → leb (length c) (length b) && leb (length c) longestText ≡ false
 not-short b c (inl h) = rw (lt-leb (length c) (length b) h)
 not-short b c (inr h) = go (leb (length c) (length b))
   where

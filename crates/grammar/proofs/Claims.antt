@@ -1,6 +1,7 @@
 -- What is proved of the definitions, in the order of the three demands. Each proof is a citation; the file it cites carries it.
 -- `readText text` is the outcome of checks 1 to 11; `read` and `canonicalize` are the two services with their lent buffers.
--- That the code computes `read` is the promise of `reader::read`; what follows for every call is in crates/reader/proofs/Claims.antt.
+-- That the code computes them is the promise of `reader::read` and `reader::canonicalize`; what follows for every call is in
+-- crates/reader/proofs/Claims.antt.
 use mathlib.Core.Path.{_≡_, sym, ap, _∙_}
 use mathlib.Core.Logic.{_↔_, _⊎_}
 use mathlib.Core.Bool.{true}

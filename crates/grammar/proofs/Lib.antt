@@ -6,6 +6,7 @@ pub mod Runs
 pub mod Taken
 pub mod Scanned
 pub mod Offsets
+pub mod Parts
 pub mod SpanRoot
 pub mod SpanFound
 pub mod SpanSearch
@@ -35,4 +36,5 @@ pub mod CanonicalTokens
 pub mod CanonicalAgreement
 pub mod RoundTrip
 pub mod Answers
+pub mod NodeCharacters
 pub mod Claims

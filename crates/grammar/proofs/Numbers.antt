@@ -165,15 +165,19 @@ strip-number d e =
     or-zero [] f = refl
     or-zero (b ∷ x) f = number-every b x f
 
--- .. and a length no greater.
-pub strip-shorter : (d : Bytes) → isNumber d ≡ true → length (strip d) ≤ length d
-unfolding strip orZero isNumber
-strip-shorter [] e = absurd (true≢false (sym e))
-strip-shorter (b ∷ d) e = or-zero (withoutZeros (b ∷ d)) (zeros-first (b ∷ d) .0) (zeros-first (b ∷ d) .1)
+-- .. and a length no greater, of any bytes but none.
+pub strip-shorter-cons : (b : ℕ) (d : Bytes) → length (strip (b ∷ d)) ≤ length (b ∷ d)
+unfolding strip orZero
+strip-shorter-cons b d = or-zero (withoutZeros (b ∷ d)) (zeros-first (b ∷ d) .0) (zeros-first (b ∷ d) .1)
   where
     or-zero : (x : Bytes) (n : ℕ) → b ∷ d ≡ padded n x → length (orZero x) ≤ suc (length d)
     or-zero [] n f = omega arith
     or-zero (c ∷ x) n f = omega (arith, ap length f, padded-length n (c ∷ x))
+
+pub strip-shorter : (d : Bytes) → isNumber d ≡ true → length (strip d) ≤ length d
+unfolding isNumber
+strip-shorter [] e = absurd (true≢false (sym e))
+strip-shorter (b ∷ d) e = strip-shorter-cons b d
 
 -- A second time `strip` changes nothing.
 pub strip-once : (d : Bytes) → strip (strip d) ≡ strip d

@@ -8,7 +8,7 @@ use native.Mathlib.Omega.{arith}
 use native.Mathlib.Nat.{sub-zero}
 use lib.ListN.{length, take, drop, length-append, take-append-drop}
 use lib.Seq.{take-append-seam, drop-append-seam, drop-append-add, drop-drop}
-use Rattle.grammar.specs.Bytes.{Bytes}
+use Rattle.grammar.specs.Bytes.{Bytes, every}
 use Rattle.grammar.specs.Token.{
   isBlankByte,
   Token,
@@ -22,10 +22,12 @@ use Rattle.grammar.specs.Token.{
   keywordIn,
   keywordEnd,
   spelling,
+  isToken,
 }
+use Rattle.grammar.specs.Spelling.{continues, Stops}
 use Rattle.grammar.specs.Outcome.{Outcome, refused, passed}
 use Rattle.grammar.specs.Scan.{Placed, run, Front, nothing, wrong, taken, front, before, scan}
-use Rattle.grammar.specs.Nodes.{characters}
+use Rattle.grammar.specs.Nodes.{charactersOffset, characters}
 use Rattle.grammar.specs.Coded.{kindOf, charactersIn, tokenOf, tokenAt, tokensFrom, kindAt, startAt, sizeAt}
 use Rattle.grammar.specs.Answer.{tokensOf}
 use Rattle.grammar.specs.Claim.{AllStand}
@@ -35,11 +37,12 @@ use Rattle.grammar.proofs.Runs.{ran}
 use Rattle.grammar.proofs.Scanned.{refused-not-passed}
 use Rattle.grammar.proofs.Taken.{Begins, Told, front-told}
 
--- The token stands at its offset in the text `s`, which begins at offset `at`.
+-- The token stands at its offset in the text `s`, which begins at offset `at`, and is the one that is taken there.
 abbrev pub Stands : ℕ → Bytes → Placed → Type 0
 Stands at s p =
     (at ≤ p .start) × (p .start + length (spelling (p .token)) ≤ at + length s)
     × ((rest : Bytes) × (drop (p .start - at) s ≡ spelling (p .token) ++ rest))
+    × (front (drop (p .start - at) s) ≡ taken (p .token) (length (spelling (p .token))))
 
 -- Each token starts at or behind the end of the one before; the first at or behind `n`.
 abbrev pub Ascend : ℕ → List Placed → Type 0
@@ -47,13 +50,17 @@ Ascend n [] = Unit {0}
 Ascend n (p ∷ ps) = (n ≤ p .start) × Ascend (p .start + length (spelling (p .token))) ps
 
 -- What a scan that found the tokens `p ∷ ps` found first, and the scan of what follows.
-record First (at : ℕ) (s : Bytes) (p : Placed) (ps : List Placed) : Type 0 where
-  gap : Bytes
-  rest : Bytes
-  room : ℕ
-  written : s ≡ gap ++ (spelling (p .token) ++ rest)
-  starts : p .start ≡ at + length gap
-  further : scan room (p .start + length (spelling (p .token))) rest ≡ passed ps
+pub record First (at : ℕ) (s : Bytes) (p : Placed) (ps : List Placed) : Type 0 where
+  pub gap : Bytes
+  pub rest : Bytes
+  pub room : ℕ
+  pub written : s ≡ gap ++ (spelling (p .token) ++ rest)
+  pub blank : every isBlankByte gap ≡ true
+  pub starts : p .start ≡ at + length gap
+  pub valid : isToken (p .token) ≡ true
+  pub stops : Stops (continues (p .token)) rest
+  pub found : front (spelling (p .token) ++ rest) ≡ taken (p .token) (length (spelling (p .token)))
+  pub further : scan room (p .start + length (spelling (p .token))) rest ≡ passed ps
 
 -- A token taken behind the blanks stands there.
 first-taken :
@@ -65,7 +72,11 @@ first-taken room at s t m ps e h = record {
   rest = here .rest;
   room = room;
   written = sym (take-append-drop n s) ∙ ap (λ v. take n s ++ v) (here .written);
+  blank = ran isBlankByte s .passes;
   starts = ap (_+_ at) (sym (ran isBlankByte s .size));
+  valid = here .valid;
+  stops = here .stops;
+  found = ap front (sym (here .written)) ∙ e ∙ ap (taken t) (here .size);
   further = ap₂ (λ k v. scan room (at + n + k) v) (sym (here .size)) (sym behind) ∙ h;
 }
   where
@@ -96,7 +107,7 @@ module _ {p : Placed} {ps : List Placed} where
   before-passed q (refused k a) e = absurd (refused-not-passed refl e)
   before-passed q (passed qs) e = (cc, cc)
 
-  first-found : (room at : ℕ) (s : Bytes) → scan room at s ≡ passed (p ∷ ps) → First at s p ps
+  pub first-found : (room at : ℕ) (s : Bytes) → scan room at s ≡ passed (p ∷ ps) → First at s p ps
   unfolding scan
   first-found zero at s h =
       front-taken (at + run isBlankByte s) (front (drop (run isBlankByte s) s)) h λ t m e f. absurd (refused-not-passed refl f)
@@ -105,7 +116,7 @@ module _ {p : Placed} {ps : List Placed} where
       let (same, further) = before-passed _ _ f in
       subst (λ q. First at s q ps) same (first-taken room at s t m ps e further)
 
-  first-size : (at : ℕ) (s : Bytes) (f : First at s p ps) → length s ≡ length (f .gap) + (sizeAt p + length (f .rest))
+  pub first-size : (at : ℕ) (s : Bytes) (f : First at s p ps) → length s ≡ length (f .gap) + (sizeAt p + length (f .rest))
   first-size at s f =
       ap length (f .written)
       ∙ length-append (f .gap) (spelling (p .token) ++ f .rest)
@@ -116,24 +127,23 @@ module _ {p : Placed} {ps : List Placed} where
   first-stands at s f = (
     omega (arith, f .starts),
     omega (arith, f .starts, first-size at s f),
-    (f .rest, ap₂ drop offset (f .written) ∙ drop-append-seam (f .gap) (spelling (p .token) ++ f .rest)),
+    (f .rest, ahead),
+    ap front ahead ∙ f .found,
   )
     where
       offset : p .start - at ≡ length (f .gap)
       offset = omega (arith, f .starts)
 
+      ahead : drop (p .start - at) s ≡ spelling (p .token) ++ f .rest
+      ahead = ap₂ drop offset (f .written) ∙ drop-append-seam (f .gap) (spelling (p .token) ++ f .rest)
+
   -- .. and what stands in the text behind it stands in the whole.
   behind-stands : (at : ℕ) (s : Bytes) (f : First at s p ps) (q : Placed) → Stands (p .start + sizeAt p) (f .rest) q → Stands at s q
-  behind-stands at s f q (low, high, (v, e)) = (
+  behind-stands at s f q (low, high, (v, e), g) = (
     omega (arith, f .starts),
     omega (arith, f .starts, first-size at s f),
-    (
-      v,
-      ap₂ drop offset (f .written)
-          ∙ drop-append-add (f .gap) (spelling (p .token) ++ f .rest) (sizeAt p + n)
-          ∙ drop-append-add (spelling (p .token)) (f .rest) n
-          ∙ e,
-    ),
+    (v, ahead ∙ e),
+    ap front ahead ∙ g,
   )
     where
       n : ℕ
@@ -141,6 +151,12 @@ module _ {p : Placed} {ps : List Placed} where
 
       offset : q .start - at ≡ length (f .gap) + (sizeAt p + n)
       offset = omega (arith, f .starts)
+
+      ahead : drop (q .start - at) s ≡ drop n (f .rest)
+      ahead =
+          ap₂ drop offset (f .written)
+          ∙ drop-append-add (f .gap) (spelling (p .token) ++ f .rest) (sizeAt p + n)
+          ∙ drop-append-add (spelling (p .token)) (f .rest) n
 
 -- Each token's spelling stands in the text at its offset.
 pub token-offsets : (room at : ℕ) (s : Bytes) (ps : List Placed) → scan room at s ≡ passed ps → All (Stands at s) ps
@@ -188,18 +204,33 @@ token-coded keywordLet = refl
 token-coded keywordIn = refl
 token-coded keywordEnd = refl
 
--- The characters of a name or number are read off the text.
+-- The characters of a name or number stand in the text, ..
+pub characters-stand :
+    (text : Bytes) (t : Token) (start : ℕ) (rest : Bytes) → drop start text ≡ spelling t ++ rest
+    → take (length (characters t)) (drop (charactersOffset t start) text) ≡ characters t
+unfolding charactersOffset spelling characters
+characters-stand text (symbol w) start rest e = ap (take (length w)) e ∙ take-append-seam w rest
+characters-stand text (number d) start rest e = ap (take (length d)) e ∙ take-append-seam d rest
+characters-stand text (quoted n) start rest e =
+    ap (take (length n)) (sym (drop-drop 1 start text) ∙ ap (drop 1) e ∙ append-assoc n (39 ∷ []) rest)
+    ∙ take-append-seam n (39 ∷ rest)
+characters-stand text opening start rest e = refl
+characters-stand text closing start rest e = refl
+characters-stand text semicolon start rest e = refl
+characters-stand text keywordLet start rest e = refl
+characters-stand text keywordIn start rest e = refl
+characters-stand text keywordEnd start rest e = refl
+
+-- .. and are read off it by the token's kind, offset and length.
 pub characters-coded :
     (text : Bytes) (t : Token) (start : ℕ) (rest : Bytes) → isContent t ≡ true → drop start text ≡ spelling t ++ rest
     → charactersIn text (kindOf t) start (length (spelling t)) ≡ characters t
-unfolding isContent charactersIn kindOf spelling characters
-characters-coded text (symbol w) start rest c e = ap (take (length w)) e ∙ take-append-seam w rest
-characters-coded text (number d) start rest c e = ap (take (length d)) e ∙ take-append-seam d rest
+unfolding isContent charactersIn kindOf spelling characters charactersOffset
+characters-coded text (symbol w) start rest c e = characters-stand text (symbol w) start rest e
+characters-coded text (number d) start rest c e = characters-stand text (number d) start rest e
 characters-coded text (quoted n) start rest c e =
     let inside : length (spelling (quoted n)) - 2 ≡ length n = omega (arith, length-append n (39 ∷ [])) in
-    ap₂ take inside (sym (drop-drop 1 start text) ∙ ap (drop 1) e)
-    ∙ ap (take (length n)) (append-assoc n (39 ∷ []) rest)
-    ∙ take-append-seam n (39 ∷ rest)
+    ap (λ k. take k (drop (start + 1) text)) inside ∙ characters-stand text (quoted n) start rest e
 characters-coded text opening start rest c e = absurd (true≢false (sym c))
 characters-coded text closing start rest c e = absurd (true≢false (sym c))
 characters-coded text semicolon start rest c e = absurd (true≢false (sym c))
@@ -208,7 +239,7 @@ characters-coded text keywordIn start rest c e = absurd (true≢false (sym c))
 characters-coded text keywordEnd start rest c e = absurd (true≢false (sym c))
 
 -- The token that stands at its offset is read off the text by its kind, offset and length.
-token-read :
+pub token-read :
     (text : Bytes) (t : Token) (start : ℕ) (rest : Bytes) → drop start text ≡ spelling t ++ rest
     → tokenOf (kindOf t) (charactersIn text (kindOf t) start (length (spelling t))) ≡ t
 unfolding tokenOf kindOf characters isContent

@@ -2,7 +2,6 @@
 -- directions go by the token at the front. What tokens joined by spaces spell is those tokens, so a scan gives them back.
 use mathlib.Core.Path.{_≡_, refl, sym, ap, subst, _∙_}
 use mathlib.Core.Bool.{Bool, true, false}
-use mathlib.Core.Logic.{_⊎_, inl, inr}
 use mathlib.Core.List.{List, [], _∷_, _++_, append-nil}
 use Prim.Native.Nat.{ℕ, zero, suc, _+_, _≤_, max}
 use native.Mathlib.Omega.{arith}
@@ -98,13 +97,6 @@ spaced-stops : (t : Token) (ts : List Token) → Stops (continues t) (spaced ts)
 unfolding spaced
 spaced-stops t [] = tt
 spaced-stops t (u ∷ ts) = space-stops t (spelling u ++ spaced ts)
-
--- A token that is written before a space or the end is the one at the front.
-pub front-token
-    : (t : Token) → isToken t ≡ true → (s : Bytes) → (s ≡ []) ⊎ ((s′ : Bytes) × (s ≡ 32 ∷ s′))
-    → front (spelling t ++ s) ≡ taken t (length (spelling t))
-front-token t e s (inl h) = front-spelled t e s (rw h tt)
-front-token t e s (inr (s′, h)) = front-spelled t e s (rw h (space-stops t s′))
 
 front-blank : (b : ℕ) (s : Bytes) → isBlankByte b ≡ true → front (b ∷ s) ≡ wrong 2
 unfolding front frontOf isBlankByte

@@ -6,12 +6,14 @@ use mathlib.Core.Option.{Option, none, some}
 use Prim.Native.Nat.{ℕ, suc, _≤_}
 use lib.ListN.{length, drop}
 use Rattle.grammar.specs.Bytes.{Bytes}
-use Rattle.grammar.specs.Token.{spelling}
+use Rattle.grammar.specs.Token.{keywordLet, keywordIn, spelling}
+use Rattle.grammar.specs.Spelling.{Spells}
 use Rattle.grammar.specs.Scan.{Placed}
-use Rattle.grammar.specs.Declaration.{start}
+use Rattle.grammar.specs.Declaration.{Declaration, allTokens, start}
 use Rattle.grammar.specs.SpanTree.{SpanTree, IsSpanTree}
-use Rattle.grammar.specs.Tree.{depth}
+use Rattle.grammar.specs.Tree.{Tree, nothing, leaf, bracket, block, node, depth}
 use Rattle.grammar.specs.Blocks.{Span, spans}
+use Rattle.grammar.specs.Nodes.{characters}
 use Rattle.grammar.specs.Abstract.{Agree}
 use Rattle.grammar.specs.Canonical.{canonical, NoSpare}
 use Rattle.grammar.specs.Answer.{Reading, Result, tokensOf, spanOffset}
@@ -20,6 +22,28 @@ use Rattle.grammar.specs.Answer.{Reading, Result, tokensOf, spanOffset}
 abbrev pub AllStand : Bytes → List Placed → Type 0
 AllStand text [] = Unit {0}
 AllStand text (p ∷ ps) = ((rest : Bytes) × (drop (p .start) text ≡ spelling (p .token) ++ rest)) × AllStand text ps
+
+-- What each node stands for, in the order of the table: the characters of a name or number, the operator; none for a bracket or block.
+unfoldable pub nodeNames : Tree → List (Option Bytes)
+nodeNames nothing = []
+nodeNames (leaf t) = some (characters t) ∷ []
+nodeNames (bracket t) = nodeNames t ++ none ∷ []
+nodeNames (block ds t) = nodeNames t ++ none ∷ []
+nodeNames (node l m r) = nodeNames l ++ (nodeNames r ++ some m ∷ [])
+
+-- The declarations of each block, in the order of the table; none for another node.
+unfoldable pub nodeBlocks : Tree → List (Option (List Declaration))
+nodeBlocks nothing = []
+nodeBlocks (leaf t) = none ∷ []
+nodeBlocks (bracket t) = nodeBlocks t ++ none ∷ []
+nodeBlocks (block ds t) = nodeBlocks t ++ some ds ∷ []
+nodeBlocks (node l m r) = nodeBlocks l ++ (nodeBlocks r ++ none ∷ [])
+
+-- "a block has `let` to `in` inclusive": text that begins with `let`, ends with `in`, and spells them with the declarations between.
+pub record FromLetToIn (ds : List Declaration) (s : Bytes) : Type 0 where
+  pub begins : (x : Bytes) × (s ≡ spelling keywordLet ++ x)
+  pub ends : (x : Bytes) × (s ≡ x ++ spelling keywordIn)
+  pub spells : Spells s (keywordLet ∷ allTokens ds ++ keywordIn ∷ [])
 
 -- The result of a service over the buffer `b`: its number is at most `most`; a refusal has count 0 and changes nothing in the
 -- buffer; the buffer keeps its length.

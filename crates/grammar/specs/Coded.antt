@@ -31,6 +31,8 @@ use Rattle.grammar.specs.Operator.{
   non,
   Role,
   Roles,
+  Table,
+  inForce,
 }
 
 -- The number of a token's kind.
@@ -133,3 +135,15 @@ unfoldable pub rolesOf : ℕ → ℕ → ℕ → Roles
 rolesOf p i q Prefix = roleOf p
 rolesOf p i q Infix = roleOf i
 rolesOf p i q Postfix = roleOf q
+
+-- 1 for a quoted name whose characters are an operator in force, else 0.
+unfoldable pub nameNumber : Table → Token → ℕ
+nameNumber T (symbol w) = 0
+nameNumber T (number d) = 0
+nameNumber T (quoted c) = elim (inForce T c) [ true ↦ 1 | false ↦ 0 ]
+nameNumber T opening = 0
+nameNumber T closing = 0
+nameNumber T semicolon = 0
+nameNumber T keywordLet = 0
+nameNumber T keywordIn = 0
+nameNumber T keywordEnd = 0

@@ -1,4 +1,4 @@
-// Reads texts from standard input, one to a line in hexadecimal, and prints the reading of each.
+// Reads texts from standard input, one to a line in hexadecimal, and prints the listing of each.
 pub mod lines;
 
 use libc::STDIN_FILENO;
@@ -6,7 +6,7 @@ use libc::STDOUT_FILENO;
 use lines::Line;
 ghost use Rattle.hex_lines.specs.Hexadecimal.{Sound};
 
-// Prints the reading of a whole line's text.
+// Prints the listing of a whole line's text.
 fn finish(line: Line, text: &[u8])
     requires { ⌜ Sound line (now text) ⌝ }
 {
@@ -15,7 +15,7 @@ fn finish(line: Line, text: &[u8])
         return;
     }
     let kept = line.kept;
-    listing::read_and_print(&text[..kept]);
+    listing::print_listing(&text[..kept]);
 }
 
 // Takes a character of the input. A line end finishes the line and begins the next one.
@@ -85,7 +85,7 @@ fn read_all(text: &mut [u8]) {
     }
 }
 
-// Reads all lines and prints their readings.
+// Reads all lines and prints their listings.
 pub fn run() {
     // Every text longer than 16,384 bytes is answered alike, refusal 1 at 16384, so its first 16,385 bytes stand for it.
     let mut text = [0u8; 16385];

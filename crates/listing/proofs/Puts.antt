@@ -1,43 +1,13 @@
--- Bytes put behind others in a line: a turn of the loop that puts them, one part behind another, and a whole line of 128 bytes.
-use mathlib.Core.Path.{_≡_, refl, sym, ap, subst, _∙_}
-use mathlib.Core.List.{List, [], _∷_, _++_}
-use Prim.Native.Nat.{ℕ, suc, _+_, _≤_, _<_}
-use native.Mathlib.Nat.{add-zero, suc-add, add-suc}
-use native.Mathlib.Numerals.{add-one}
-use native.Mathlib.Omega.{arith}
-use lib.ListN.{length, take, drop, set, getD, replicate, length-append, drop-of-length-le}
-use lib.Seq.{sets, drop-cons, length-sets, length-take-le}
-use Rattle.grammar.specs.Bytes.{Bytes}
-use Rattle.listing.specs.Lines.{Put}
-
--- A turn of the loop stores one byte.
-pub put-step
-    : (line part : List ℕ) (n i : ℕ) → i < length part
-    → sets line (n + i) (drop i part) ≡ sets (set line (n + i) (getD part i 0)) (n + (i + 1)) (drop (i + 1) part)
-put-step line part n i h = rw (drop-cons part i 0 h, add-one i, add-suc n i) refl
-
--- After the last turn every byte is stored.
-pub put-end
-    : (line₀ line part : List ℕ) (n i : ℕ) → length part ≤ i → sets line₀ n part ≡ sets line (n + i) (drop i part) → line ≡ sets line₀ n part
-put-end line₀ line part n i h e = sym (rw (drop-of-length-le part h) at e)
-
--- Two runs of stores, one behind the other, are one.
-sets-then : (l : List ℕ) (n : ℕ) (p q : Bytes) → sets (sets l n p) (n + length p) q ≡ sets l n (p ++ q)
-sets-then l n [] q = rw (add-zero n) refl
-sets-then l n (x ∷ p) q = rw (add-suc n (length p), ← suc-add n (length p)) (sets-then (set l n x) (suc n) p q)
-
--- A part behind another, and a part that is known by an equation.
-module _ {l l₂ : List ℕ} {n n₂ : ℕ} where
-  pub put-then : {l₁ : List ℕ} {n₁ : ℕ} {p q : Bytes} → Put l n p l₁ n₁ → Put l₁ n₁ q l₂ n₂ → Put l n (p ++ q) l₂ n₂
-  put-then {l₁} {n₁} {p} {q} h g = record {
-    size = omega (arith, h .size, g .size, length-append p q);
-    stored = g .stored ∙ ap (λ (x : List ℕ). sets x n₁ q) (h .stored) ∙ ap (λ (k : ℕ). sets (sets l n p) k q) (h .size) ∙ sets-then l n p q;
-  }
-
-  pub put-same : {p q : Bytes} → p ≡ q → Put l n p l₂ n₂ → Put l n q l₂ n₂
-  put-same e h = subst (λ (x : Bytes). Put l n x l₂ n₂) e h
-
 -- A line of 128 bytes that a text of at most as many was put into.
+use mathlib.Core.Path.{_≡_, sym, ap}
+use mathlib.Core.List.{List}
+use Prim.Native.Nat.{ℕ, _≤_}
+use native.Mathlib.Omega.{arith}
+use lib.ListN.{length, take, replicate}
+use lib.Seq.{length-sets, length-take-le}
+use Rattle.grammar.specs.Bytes.{Bytes}
+use Rattle.pieces.specs.Puts.{Put}
+
 module _ {line : List ℕ} {r : ℕ} {part : Bytes} where
   pub put-within : Put (replicate 128 0) 0 part line r → r ≤ 128 → r ≤ length line
   put-within p h = omega (arith, h, ap length (p .stored), length-sets (replicate 128 0) 0 part)

@@ -1,23 +1,19 @@
-// Prints what reading gives, in document 01's format: the answer, then a line for each node.
+// Prints what both services give, in document 01's format: the answer, a line for each node, then the canonical text.
 use libc::STDOUT_FILENO;
 use reader::Answer;
 ghost use mathlib.Core.List.{[], _∷_};
 ghost use Prim.Native.Nat.{_+_, _*_, _≤_, _<_};
 ghost use lib.ListN.{length, drop, getD};
 ghost use Rattle.grammar.specs.Listing.{field, kindNames, nodeLines};
-ghost use Rattle.listing.specs.Lines.{spelled, answerText, Put};
+ghost use Rattle.pieces.specs.Puts.{Put};
+ghost use Rattle.listing.specs.Lines.{spelled, answerText};
 
 // Puts `part` behind the first `n` bytes of a line, and answers how many bytes the line then has.
 fn put(line: &mut [u8; 128], n: usize, part: &[u8]) -> usize
     requires { ⌜ n + length (now part) ≤ 128 ⌝ }
     ensures { λ r. ⌜ Put (now (line .entry)) n (now (part .entry)) (now (line .exit)) r ⌝ }
 {
-    let mut i: usize = 0;
-    while i < part.len() {
-        line[n + i] = part[i];
-        i += 1;
-    }
-    n + i
+    pieces::put(line, n, part)
 }
 
 // Puts a number, of at most 20 digits, into a line.
@@ -60,14 +56,16 @@ fn put_kind(line: &mut [u8; 128], n: usize, kind: u32) -> usize
     }
 }
 
-// Puts the answer into a line.
-fn put_answer(line: &mut [u8; 128], a: Answer) -> usize
-    ensures { λ r. ⌜ Put (now (line .entry)) 0 (answerText a) (now (line .exit)) r ⌝ }
+// Puts an answer into a line: `word` and the count, or the refusal.
+fn put_answer(line: &mut [u8; 128], word: &[u8], a: Answer) -> usize
+    requires { ⌜ length (now word) ≤ 4 ⌝ }
+    ensures { λ r. ⌜ Put (now (line .entry)) 0 (answerText (now (word .entry)) a) (now (line .exit)) r ⌝ }
     ensures { λ r. ⌜ r < 128 ⌝ }
 {
     if a.number == 0 {
-        let n = put(line, 0, b"read ");
-        return put_number(line, n, a.count as u64);
+        let n = put(line, 0, word);
+        let m = put(line, n, b" ");
+        return put_number(line, m, a.count as u64);
     }
     let n = put(line, 0, b"refused ");
     let m = put_number(line, n, a.number as u64);
@@ -91,17 +89,21 @@ fn put_node(line: &mut [u8; 128], nodes: &[u32; 5120], i: usize) -> usize
     put(line, n, b"\n")
 }
 
-// Writes the answer, with no line end.
-pub fn print_answer(a: Answer) {
+// Writes an answer, with no line end.
+pub fn print_answer(word: &[u8], a: Answer)
+    requires { ⌜ length (now word) ≤ 4 ⌝ }
+{
     let mut line = [0u8; 128];
-    let n = put_answer(&mut line, a);
+    let n = put_answer(&mut line, word, a);
     io::write_all(STDOUT_FILENO, &line[..n]);
 }
 
-// Writes the answer and a line end.
-fn print_answer_line(a: Answer) {
+// Writes an answer and a line end.
+fn print_answer_line(word: &[u8], a: Answer)
+    requires { ⌜ length (now word) ≤ 4 ⌝ }
+{
     let mut line = [0u8; 128];
-    let n = put_answer(&mut line, a);
+    let n = put_answer(&mut line, word, a);
     let m = put(&mut line, n, b"\n");
     io::write_all(STDOUT_FILENO, &line[..m]);
 }
@@ -115,15 +117,10 @@ fn print_node(nodes: &[u32; 5120], i: usize)
     io::write_all(STDOUT_FILENO, &line[..n]);
 }
 
-// Writes the answer and a line for each node that was read.
-fn print_reading(a: Answer, nodes: &[u32; 5120])
-    requires { ⌜ 5 * a .count ≤ 5120 ⌝ }
+// Writes the lines of the first `count` nodes.
+fn print_nodes(nodes: &[u32; 5120], count: usize)
+    requires { ⌜ count ≤ 1024 ⌝ }
 {
-    print_answer_line(a);
-    if a.number != 0 {
-        return;
-    }
-    let count = a.count;
     let mut i: usize = 0;
     while i < count {
         print_node(nodes, i);
@@ -131,9 +128,28 @@ fn print_reading(a: Answer, nodes: &[u32; 5120])
     }
 }
 
-// Reads a text into a table of 1,024 nodes, which is enough for every text, and prints the reading.
-pub fn read_and_print(text: &[u8]) {
+// Canonicalizes a text into 16,384 bytes, the most that canonical text may have, and prints its length and bytes, or the refusal.
+fn print_canonical(text: &[u8]) {
+    let mut buffer = [0u8; 16384];
+    let a = reader::canonicalize(text, &mut buffer);
+    print_answer_line(b"tidy", a);
+    if a.number != 0 {
+        return;
+    }
+    let n = a.count;
+    io::write_all(STDOUT_FILENO, &buffer[..n]);
+    io::write_all(STDOUT_FILENO, b"\n");
+}
+
+// Reads a text into a table of 1,024 nodes, which is enough for every text, and prints its listing: the answer, the nodes and the
+// canonical text.
+pub fn print_listing(text: &[u8]) {
     let mut nodes = [0u32; 5120];
     let a = reader::read(text, &mut nodes);
-    print_reading(a, &nodes);
+    print_answer_line(b"read", a);
+    if a.number != 0 {
+        return;
+    }
+    print_nodes(&nodes, a.count);
+    print_canonical(text);
 }

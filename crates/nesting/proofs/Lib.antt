@@ -6,3 +6,4 @@ pub mod Closers
 pub mod PairedTokens
 pub mod PairedItems
 pub mod PairedCases
+pub mod PairedClosers

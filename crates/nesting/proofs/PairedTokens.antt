@@ -18,7 +18,6 @@ use Rattle.grammar.specs.Coded.{kindOf, tokenOf}
 use Rattle.grammar.proofs.Plain.{isContent}
 use Rattle.grammar.proofs.Items.{isQuiet, AllQuiet, content-cases, quiet-cases}
 use Rattle.grammar.proofs.ItemsNested.{allItemTokens, ItemNested, AllNested, items-tokens, items-nested}
-use Rattle.grammar.proofs.Nested.{nesting-anywhere}
 use Rattle.nesting.specs.Pairs.{tokensBy, closers}
 use Rattle.nesting.specs.Paired.{IsContentKind, IsQuietKind, Paired, done, content, bracket, block}
 use Rattle.nesting.proofs.Closers.{bracket-closer, let-closer, in-closer}
@@ -179,15 +178,7 @@ module _ (K : List ℕ) (count : ℕ) (C₀ : List ℕ) (room : count ≤ length
       let k = items-tokens seg 0 h in
       paired-items n (stretch n) (items seg) (items-nested seg 0 h) pre post (rw k l) (rw k e) i to p (rw k q)
 
--- Each nested stretch of the tokens is paired.
-pub paired-stretch : (K C₀ C : List ℕ) (count : ℕ) → count ≤ length C₀ → Kinds K count
-    → nesting [] 0 (tokensBy K 0 count) ≡ passed tt → C ≡ closers [] 0 (tokensBy K 0 count) C₀ → (pre seg post : List Token)
-    → tokensBy K 0 count ≡ pre ++ (seg ++ post) → (i : ℕ) → nesting [] i seg ≡ passed tt
-    → Paired K C (length pre) (length pre + length seg)
-paired-stretch K C₀ C count r k h e pre seg post s i n =
-    rw e (stretch K count C₀ r k h (length seg) pre seg post (omega arith) (nesting-anywhere seg [] i 0 n) s _ _ refl refl)
-
--- And so are all of them.
+-- All tokens are paired.
 pub paired : (K C₀ C : List ℕ) (count : ℕ) → count ≤ length C₀ → Kinds K count → nesting [] 0 (tokensBy K 0 count) ≡ passed tt
     → C ≡ closers [] 0 (tokensBy K 0 count) C₀ → Paired K C 0 count
 paired K C₀ C count r k h e =

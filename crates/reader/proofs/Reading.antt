@@ -29,70 +29,71 @@ use Rattle.tree.proofs.TreeWords.{span-words, span-flat, span-count}
 use Rattle.analysis.specs.declared.Analysis.{Analysis}
 use Rattle.analysis.specs.Analysed.{Ready, Outcomes, Analysed}
 use Rattle.reader.specs.declared.Answer.{Answer}
-use Rattle.reader.specs.Answered.{answerOf, resultOf, Reads}
-
-abbrev refusal : ℕ → ℕ → Answer
-refusal n p = record { number = n; offset = p; count = 0 }
+use Rattle.reader.specs.Answered.{answerOf, resultOf, refusedWith, Reads}
 
 -- A text that passes checks 1 to 11 has a reading, whose tokens the arrays hold.
-record Found (text : Bytes) (A : Arrays) (a : Analysis) : Type 0 where
-  reading : Reading
-  reads : readText text ≡ passed reading
-  nodes : a .nodes ≡ count (reading .tree)
-  ready : Ready text A (a .tokens) reading
+pub record Found (text : Bytes) (A : Arrays) (L R : List ℕ) (a : Analysis) : Type 0 where
+  pub reading : Reading
+  pub reads : readText text ≡ passed reading
+  pub nodes : a .nodes ≡ count (reading .tree)
+  pub ready : Ready text A L R (a .tokens) reading
 
-module _ (text : Bytes) (A : Arrays) (a : Analysis) (h : Analysed text A a) (N : List ℕ) where
+module _ (text : Bytes) (A : Arrays) (L R : List ℕ) (a : Analysis) (h : Analysed text A L R a) (z : a .number ≡ 0) where
+  pub found : Found text A L R a
+  found = go (readText text) refl h
+    where
+      go : (o : Outcome Reading) → readText text ≡ o → Outcomes text A L R a o → Found text A L R a
+      go (refused n p) e g = absurd (omega (arith, g .0, between-number 1 11 (readText text) (read-between text) n p e))
+      go (passed r) e g = record { reading = r; reads = e; nodes = g .1; ready = g .2 }
+
+  -- The tree of the tokens.
+  pub own-tree : treeIn (suc (length (tokensOf (found .reading .tokens)))) start (tokens A text 0 (a .tokens)) ≡ some (found .reading .tree)
+  unfolding treeOf
+  own-tree =
+      ap (treeIn (suc (length (tokensOf (found .reading .tokens)))) start) (found .ready .tokens)
+      ∙ treeOf-complete start conditions-start (tokensOf (found .reading .tokens)) (found .reading .tree)
+      (reading-tree text (found .reading) (found .reads) .1)
+
+module _ (text : Bytes) (A : Arrays) (L R : List ℕ) (a : Analysis) (h : Analysed text A L R a) (N : List ℕ) where
   -- A refusal.
-  pub reads-refused : (a .number ≡ 0 → ⊥) → Reads text N N (refusal (a .number) (a .offset))
+  pub reads-refused : (a .number ≡ 0 → ⊥) → Reads text N N (refusedWith (a .number) (a .offset))
   unfolding G.read readInto rejection answerOf resultOf
   reads-refused f = go (readText text) refl h
     where
-      go : (o : Outcome Reading) → readText text ≡ o → Outcomes text A a o → Reads text N N (refusal (a .number) (a .offset))
+      go : (o : Outcome Reading) → readText text ≡ o → Outcomes text A L R a o → Reads text N N (refusedWith (a .number) (a .offset))
       go (refused n p) e g = rw (e, g .0, g .1)
       go (passed r) e g = absurd (f (g .0))
 
   module _ (z : a .number ≡ 0) where
-    found : Found text A a
-    found = go (readText text) refl h
-      where
-        go : (o : Outcome Reading) → readText text ≡ o → Outcomes text A a o → Found text A a
-        go (refused n p) e g = absurd (omega (arith, g .0, between-number 1 11 (readText text) (read-between text) n p e))
-        go (passed r) e g = record { reading = r; reads = e; nodes = g .1; ready = g .2 }
+    abbrev own : Found text A L R a
+    own = found text A L R a h z
 
     -- It has at most 1,024 nodes.
     pub nodes-few : a .nodes ≤ 1024
-    nodes-few = omega (arith, found .nodes, few-nodes text (found .reading) (found .reads))
+    nodes-few = omega (arith, own .nodes, few-nodes text (own .reading) (own .reads))
 
     -- The table is too short.
-    pub reads-short : length N < a .nodes * 5 → Reads text N N (refusal 12 0)
+    pub reads-short : length N < a .nodes * 5 → Reads text N N (refusedWith 12 0)
     unfolding G.read readInto rejection answerOf resultOf
     reads-short l =
-        rw (found .reads)
-        (rw (lt-leb (wordsPerNode * count (found .reading .tree)) (length N) (omega (arith, found .nodes)), readInto))
-
-    -- The tree of the tokens.
-    own-tree : treeIn (suc (length (tokensOf (found .reading .tokens)))) start (tokens A text 0 (a .tokens)) ≡ some (found .reading .tree)
-    unfolding treeOf
-    own-tree =
-        ap (treeIn (suc (length (tokensOf (found .reading .tokens)))) start) (found .ready .tokens)
-        ∙ treeOf-complete start conditions-start (tokensOf (found .reading .tokens)) (found .reading .tree)
-        (reading-tree text (found .reading) (found .reads) .1)
+        rw (own .reads)
+        (rw (lt-leb (wordsPerNode * count (own .reading .tree)) (length N) (omega (arith, own .nodes)), readInto))
 
     -- The builder's words are those of the reading.
-    own-words : spanWords A 0 (a .tokens) 0 ≡ readingWords text (found .reading)
+    own-words : spanWords A 0 (a .tokens) 0 ≡ readingWords text (own .reading)
     unfolding readingWords
     own-words =
-        let t = found .reading .tree in
-        let k = suc (length (tokensOf (found .reading .tokens))) in
-        let f = span-flat A text k start 0 (a .tokens) t (found .ready .agrees) own-tree in
-        span-words A text k start 0 (a .tokens) 0 t (found .ready .agrees) own-tree
-        ∙ words-offsets (λ j. getD (A .starts) j 0) (offsetOf text (found .reading .tokens)) t 0 0
-        (λ j l m. found .ready .starts j (omega (arith, f)))
+        let t = own .reading .tree in
+        let k = suc (length (tokensOf (own .reading .tokens))) in
+        let f = span-flat A text L k start 0 (a .tokens) t (own .ready .agrees) (own-tree text A L R a h z) in
+        span-words A text L k start 0 (a .tokens) 0 t (own .ready .agrees) (own-tree text A L R a h z)
+        ∙ words-offsets (λ j. getD (A .starts) j 0) (offsetOf text (own .reading .tokens)) t 0 0
+        (λ j l m. own .ready .starts j (omega (arith, f)))
 
-    own-count : length (spanWords A 0 (a .tokens) 0) ≡ 5 * count (found .reading .tree)
+    own-count : length (spanWords A 0 (a .tokens) 0) ≡ 5 * count (own .reading .tree)
     own-count =
-        span-count A text (suc (length (tokensOf (found .reading .tokens)))) start 0 (a .tokens) 0 (found .reading .tree)
-        (found .ready .agrees) own-tree
+        span-count A text L (suc (length (tokensOf (own .reading .tokens)))) start 0 (a .tokens) 0 (own .reading .tree)
+        (own .ready .agrees) (own-tree text A L R a h z)
 
     module _ (l : a .nodes * 5 ≤ length N) (M P F Q : List ℕ) where
       -- What the builder asks.
@@ -100,10 +101,10 @@ module _ (text : Bytes) (A : Arrays) (a : Analysis) (h : Analysed text A a) (N :
       spannable w =
           record {
             whole = w;
-            span = record { inArrays = found .ready .few; paired = agrees-paired A text (found .ready .agrees); placed = found .ready .placed };
-            scratch = omega (arith, found .ready .few);
-            room = omega (arith, own-count, found .nodes);
-            few = omega (arith, found .ready .few);
+            span = record { inArrays = own .ready .few; paired = agrees-paired A text L (own .ready .agrees); placed = own .ready .placed };
+            scratch = omega (arith, own .ready .few);
+            room = omega (arith, own-count, own .nodes);
+            few = omega (arith, own .ready .few);
           }
 
       -- What it leaves is the reading.
@@ -112,8 +113,8 @@ module _ (text : Bytes) (A : Arrays) (a : Analysis) (h : Analysed text A a) (N :
           → Reads text N N′ (record { number = 0; offset = 0; count = r })
       unfolding G.read readInto success answerOf resultOf G.over
       reads-words N′ r M′ P′ F′ Q′ w =
-          let c : r ≡ count (found .reading .tree) = omega (arith, w .answer, own-count) in
-          rw (found .reads)
-          (rw (le-leb (wordsPerNode * count (found .reading .tree)) (length N) (omega (arith, found .nodes)), readInto)
+          let c : r ≡ count (own .reading .tree) = omega (arith, w .answer, own-count) in
+          rw (own .reads)
+          (rw (le-leb (wordsPerNode * count (own .reading .tree)) (length N) (omega (arith, own .nodes)), readInto)
           (ap₂ (λ k b. record { answer = record { number = 0; offset = 0; count = k }; buffer = b }) c
           (w .words ∙ ap (λ v. v ++ drop (length v) N) own-words)))

@@ -15,9 +15,17 @@ answerOf a = record { number = a .number; offset = a .offset; count = a .count }
 unfoldable pub resultOf : Answer → List ℕ → G.Result
 resultOf a buffer = record { answer = answerOf a; buffer = buffer }
 
+-- "Refused: count 0".
+abbrev pub refusedWith : ℕ → ℕ → Answer
+refusedWith n p = record { number = n; offset = p; count = 0 }
+
 -- Reading: the text, the node table before and after, the answer.
 abbrev pub Reads : Bytes → List ℕ → List ℕ → Answer → Type 0
 Reads text table table′ a = resultOf a table′ ≡ G.read text table
+
+-- Canonicalizing: the text, the buffer before and after, the answer.
+abbrev pub Canonicalizes : Bytes → List ℕ → List ℕ → Answer → Type 0
+Canonicalizes text buffer buffer′ a = resultOf a buffer′ ≡ G.canonicalize text buffer
 
 -- "Offset and length give the name's characters, the number's digits or the operator's mark": the part of the text that node number
 -- `i` gives. A node that is not there gives none of it.

@@ -1,14 +1,15 @@
--- The class of a token by its kind: each law takes the tests up to the one that holds.
+-- The class of a token by its kind: each law takes the tests up to the one that holds. And the number of a quoted name.
 use mathlib.Core.Path.{_≡_, ap, _∙_}
 use mathlib.Core.List.{List}
 use Prim.Native.Nat.{ℕ}
 use lib.ListN.{take, drop}
 use borrow.Author.Tests.{eq-eqb, ne-eqb}
 use Rattle.grammar.specs.Bytes.{Bytes}
+use Rattle.grammar.specs.Coded.{charactersIn}
 use Rattle.table.specs.Entries.{codedFind}
 use Rattle.table.specs.declared.Found.the-variants.{At, Nothing}
 use Rattle.resolve.specs.declared.Class.the-variants.{Name, Number, Operator, Bracket, Block}
-use Rattle.resolve.specs.Resolved.{foundClass, codedClass}
+use Rattle.resolve.specs.Resolved.{foundClass, codedClass, foundNumber, codedNumber}
 
 module _ (text : Bytes) (kind start size close : ℕ) (S Z : List ℕ) (count : ℕ) where
   -- A word or sign: what the search of its name finds.
@@ -49,3 +50,15 @@ module _ (text : Bytes) (kind start size close : ℕ) (S Z : List ℕ) (count : 
         pub class-other : (kind ≡ 7 → ⊥) → codedClass text kind start size close S Z count ≡ Name start size
         unfolding codedClass
         class-other e = rw (ne-eqb kind 1 n, ne-eqb kind 2 m, ne-eqb kind 4 b, ne-eqb kind 7 e, codedClass)
+
+-- A quoted name has the number of what the search of its characters finds, any other token 0.
+module _ (text : Bytes) (kind start size : ℕ) (S Z : List ℕ) (count : ℕ) where
+  pub number-quoted :
+      kind ≡ 3
+      → codedNumber text kind start size S Z count ≡ foundNumber (codedFind text S Z (charactersIn text kind start size) 0 count)
+  unfolding codedNumber
+  number-quoted e = rw (eq-eqb kind 3 e, codedNumber)
+
+  pub number-other : (kind ≡ 3 → ⊥) → codedNumber text kind start size S Z count ≡ 0
+  unfolding codedNumber
+  number-other n = rw (ne-eqb kind 3 n, codedNumber)

@@ -1,4 +1,4 @@
--- What resolving writes, seen from the spans: at the first token of each item of a span stands the number of the item's role under
+-- What resolving writes, seen from the spans: at the first token of each item of a span stands the item's number of the column under
 -- the operators in force in that span. An item writes only from its first token to its last, so what the items behind it write, and
 -- what is written inside it, leave its number. One induction over a paired range gives both; it speaks of every array that has the
 -- numbers written there, so that an inner span's law serves for the array of the whole.
@@ -6,13 +6,13 @@ use mathlib.Core.Path.{_≡_, refl, ap, _∙_}
 use mathlib.Core.Logic.{_⊎_, inl, inr}
 use mathlib.Core.List.{List, _∷_, _++_, map}
 use mathlib.Core.Option.{Option, none, some}
-use Prim.Native.Nat.{ℕ, zero, suc, _+_, _-_, _≤_, _<_}
+use Prim.Native.Nat.{ℕ, zero, suc, _+_, _≤_, _<_}
 use native.Mathlib.Omega.{arith}
 use lib.ListN.{length, getD, set, length-set}
 use lib.Seq.{getD-set-same, getD-set-other}
 use Rattle.grammar.specs.Bytes.{Bytes}
 use Rattle.grammar.specs.Token.{Token}
-use Rattle.grammar.specs.Operator.{Fixity, Table}
+use Rattle.grammar.specs.Operator.{Table}
 use Rattle.grammar.specs.Coded.{tokenAt}
 use Rattle.grammar.specs.Span.{Item, single, pair, scope, itemTokens, items}
 use Rattle.grammar.specs.Search.{symbolAt, operatorAt}
@@ -20,7 +20,7 @@ use Rattle.grammar.specs.Blocks.{bodyTable, Span, itemSpans, allItemSpans, span
 use Rattle.grammar.proofs.Lists.{All, all-append}
 use Rattle.nesting.specs.Paired.{Paired, done, content, bracket, block, numbersFrom}
 use Rattle.nesting.proofs.PairedItems.{behind-pair, behind-scope, range, length-range, items-done, items-content, items-bracket, items-block}
-use Rattle.resolve.specs.Resolved.{numberOf, writeItem, writeItems, writtenRoles}
+use Rattle.resolve.specs.Resolved.{Column, roles, names, numberOf, nameOf, numberIn, writeItem, writeItems, writtenColumn}
 
 -- `M` is `L` but for the places from `i` to `to`.
 pub record Kept (i to : ℕ) (L M : List ℕ) : Type 0 where
@@ -36,10 +36,10 @@ unfoldable pub contentsStart : Option ℕ → ℕ
 contentsStart none = 0
 contentsStart (some j) = suc j
 
-module _ (f : Fixity) (M : List ℕ) where
-  -- The numbers at the first tokens of items, the first of which has number `b`, are those of the items' roles.
+module _ (col : Column) (M : List ℕ) where
+  -- The numbers at the first tokens of items, the first of which has number `b`, are the items' numbers of the column.
   abbrev pub RolesFrom : ℕ → Table → List Item → Type 0
-  RolesFrom b T xs = map (λ j. getD M j 0) (numbersFrom b xs) ≡ map (numberOf f T) xs
+  RolesFrom b T xs = map (λ j. getD M j 0) (numbersFrom b xs) ≡ map (numberIn col T) xs
 
   -- So it is in a span.
   abbrev pub RolesIn : Span → Type 0
@@ -67,29 +67,29 @@ kept-both i c o e to L M N h g a b d =
           ];
     }
 
-module _ (text : Bytes) (K S Z C : List ℕ) (f : Fixity) where
+module _ (text : Bytes) (K S Z C : List ℕ) (col : Column) where
   abbrev part : ℕ → ℕ → List Token
   part = range text K S Z
 
   abbrev writes : ℕ → Table → ℕ → ℕ → List ℕ → List ℕ
-  writes k T i to L = writeItems f (writtenRoles f k) T i (items (part i to)) L
+  writes k T i to L = writeItems col (writtenColumn col k) T i (items (part i to)) L
 
   abbrev writesOne : ℕ → Table → ℕ → Item → List ℕ → List ℕ
-  writesOne k T i x L = writeItem f (writtenRoles f k) T i x L
+  writesOne k T i x L = writeItem col (writtenColumn col k) T i x L
 
   -- What is claimed of an item from token `i` to token `j`;
   record ItemWritten (k : ℕ) (T : Table) (i j : ℕ) (x : Item) (L : List ℕ) : Type 0 where
     kept : Kept i j L (writesOne k T i x L)
-    first : i < length L → getD (writesOne k T i x L) i 0 ≡ numberOf f T x
-    inner : j ≤ length L → (M : List ℕ) → Agree i j M (writesOne k T i x L) → All (RolesIn f M) (itemSpans (spans k) T i x)
+    first : i < length L → getD (writesOne k T i x L) i 0 ≡ numberIn col T x
+    inner : j ≤ length L → (M : List ℕ) → Agree i j M (writesOne k T i x L) → All (RolesIn col M) (itemSpans (spans k) T i x)
 
   -- Of the items of a range.
   record Written (k : ℕ) (T : Table) (i to : ℕ) (L : List ℕ) : Type 0 where
     kept : Kept i to L (writes k T i to L)
-    outer : to ≤ length L → (M : List ℕ) → Agree i to M (writes k T i to L) → RolesFrom f M i T (items (part i to))
+    outer : to ≤ length L → (M : List ℕ) → Agree i to M (writes k T i to L) → RolesFrom col M i T (items (part i to))
     inner :
         to ≤ length L → (M : List ℕ) → Agree i to M (writes k T i to L)
-        → All (RolesIn f M) (allItemSpans (spans k) T i (items (part i to)))
+        → All (RolesIn col M) (allItemSpans (spans k) T i (items (part i to)))
 
   -- No items, and a first item with those behind it.
   none-written : (k : ℕ) (T : Table) (to : ℕ) (L : List ℕ) → Written k T to to L
@@ -109,8 +109,8 @@ module _ (text : Bytes) (K S Z C : List ℕ) (f : Fixity) where
       write-next : writes k T i to L ≡ writes k T j to behind
       unfolding writeItems
       write-next =
-          ap (λ xs. writeItems f (writtenRoles f k) T i xs L) cut
-          ∙ ap (λ n. writeItems f (writtenRoles f k) T n (items (part j to)) behind) e
+          ap (λ xs. writeItems col (writtenColumn col k) T i xs L) cut
+          ∙ ap (λ n. writeItems col (writtenColumn col k) T n (items (part j to)) behind) e
 
       numbers-next : numbersFrom i (items (part i to)) ≡ i ∷ numbersFrom j (items (part j to))
       unfolding numbersFrom
@@ -126,13 +126,13 @@ module _ (text : Bytes) (K S Z C : List ℕ) (f : Fixity) where
           record {
             kept = rw write-next (kept-both i j j to to L behind _ (one .kept) (rest .kept) (omega arith) m (omega arith));
             outer = λ h M a.
-                let n : getD M i 0 ≡ numberOf f T x =
+                let n : getD M i 0 ≡ numberIn col T x =
                 a i (omega arith) (omega arith) ∙ ap (λ W. getD W i 0) write-next ∙ rest .kept .outside i (inl l)
                 ∙ one .first (omega arith) in
-                rw (numbers-next, cut, n) (ap (λ ns. numberOf f T x ∷ ns) (rest .outer (long h) M (later M a)));
+                rw (numbers-next, cut, n) (ap (λ ns. numberIn col T x ∷ ns) (rest .outer (long h) M (later M a)));
             inner = λ h M a.
                 rw spans-next
-                (all-append (RolesIn f M) (itemSpans (spans k) T i x) (allItemSpans (spans k) T j (items (part j to)))
+                (all-append (RolesIn col M) (itemSpans (spans k) T i x) (allItemSpans (spans k) T j (items (part j to)))
                 (one .inner (omega arith) M (now M a)) (rest .inner (long h) M (later M a)));
           }
         where
@@ -150,29 +150,30 @@ module _ (text : Bytes) (K S Z C : List ℕ) (f : Fixity) where
   unfolding writeItem itemSpans
   single-written k T i t L =
       record {
-        kept = kept-set i (suc i) L (numberOf f T (single t)) (omega arith);
-        first = λ l. getD-set-same L i (numberOf f T (single t)) 0 l;
+        kept = kept-set i (suc i) L (numberIn col T (single t)) (omega arith);
+        first = λ l. getD-set-same L i (numberIn col T (single t)) 0 l;
         inner = λ l M a. tt;
       }
 
   -- What is inside an item, behind its opener `o`: its items' claims are those of the range at one fuel less.
   module _ (o c : ℕ) (below : (k : ℕ) (T : Table) (L : List ℕ) → Written k T (suc o) c L) where
-    inside-kept : (k : ℕ) (T : Table) (L : List ℕ) → Kept (suc o) c L (writtenRoles f k T (suc o) (part (suc o) c) L)
-    unfolding writtenRoles
+    inside-kept : (k : ℕ) (T : Table) (L : List ℕ) → Kept (suc o) c L (writtenColumn col k T (suc o) (part (suc o) c) L)
+    unfolding writtenColumn
     inside-kept zero T L = kept-all (suc o) c L
     inside-kept (suc k) T L = below k T L .kept
 
     inside-roles :
         (k : ℕ) (T : Table) (L : List ℕ) → c ≤ length L → (M : List ℕ)
-        → Agree (suc o) c M (writtenRoles f k T (suc o) (part (suc o) c) L) → All (RolesIn f M) (spans k T (some o) (suc o) (part (suc o) c))
-    unfolding writtenRoles spans contentsStart
+        → Agree (suc o) c M (writtenColumn col k T (suc o) (part (suc o) c) L)
+        → All (RolesIn col M) (spans k T (some o) (suc o) (part (suc o) c))
+    unfolding writtenColumn spans contentsStart
     inside-roles zero T L l M a = tt
     inside-roles (suc k) T L l M a = (below k T L .outer l M a, below k T L .inner l M a)
 
     -- An item with that inside, over whose first token 0 is written.
     inside-written :
         (k : ℕ) (T U : Table) (i : ℕ) (x : Item) (L : List ℕ) → i ≤ o → o < c
-        → writesOne k T i x L ≡ writtenRoles f k U (suc o) (part (suc o) c) (set L i 0) → numberOf f T x ≡ 0
+        → writesOne k T i x L ≡ writtenColumn col k U (suc o) (part (suc o) c) (set L i 0) → numberIn col T x ≡ 0
         → itemSpans (spans k) T i x ≡ spans k U (some o) (suc o) (part (suc o) c) → ItemWritten k T i (suc c) x L
     inside-written k T U i x L l m w n s =
         let written = inside-kept k U (set L i 0) in
@@ -186,21 +187,29 @@ module _ (text : Bytes) (K S Z C : List ℕ) (f : Fixity) where
               (λ j b d. a j (omega arith) (omega arith) ∙ ap (λ W. getD W j 0) w));
         }
 
-  -- A bracket pair and a block.
+  -- A bracket pair and a block, whose numbers are 0.
+  pair-number : (T : Table) (ts : List Token) → numberIn col T (pair ts) ≡ 0
+  unfolding numberIn numberOf nameOf operatorAt symbolAt
+  pair-number T ts = elim col [ roles f ↦ refl | names ↦ refl ]
+
+  scope-number : (T : Table) (ds ts : List Token) → numberIn col T (scope ds ts) ≡ 0
+  unfolding numberIn numberOf nameOf operatorAt symbolAt
+  scope-number T ds ts = elim col [ roles f ↦ refl | names ↦ refl ]
+
   pair-written :
       (i c : ℕ) → ((k : ℕ) (T : Table) (L : List ℕ) → Written k T (suc i) c L) → i < c
       → (k : ℕ) (T : Table) (L : List ℕ) → ItemWritten k T i (suc c) (pair (part (suc i) c)) L
-  unfolding writeItem itemSpans numberOf operatorAt symbolAt
-  pair-written i c below l k T L = inside-written i c below k T T i (pair (part (suc i) c)) L (omega arith) l refl refl refl
+  unfolding writeItem itemSpans
+  pair-written i c below l k T L = inside-written i c below k T T i (pair (part (suc i) c)) L (omega arith) l refl (pair-number T _) refl
 
   scope-written :
       (i c e : ℕ) → ((k : ℕ) (T : Table) (L : List ℕ) → Written k T (suc c) e L) → i < c → c < e
       → (k : ℕ) (T : Table) (L : List ℕ) → ItemWritten k T i (suc e) (scope (part (suc i) c) (part (suc c) e)) L
-  unfolding writeItem itemSpans numberOf operatorAt symbolAt
+  unfolding writeItem itemSpans
   scope-written i c e below l m k T L =
       let b : suc (i + length (part (suc i) c)) ≡ c = omega (arith, length-range text K S Z (suc i) c) in
       inside-written c e below k T (bodyTable T (part (suc i) c)) i (scope (part (suc i) c) (part (suc c) e)) L (omega arith) m
-      (rw b) refl (rw b)
+      (rw b) (scope-number T _ _) (rw b)
 
   -- So it is of every paired range.
   range-written : {i to : ℕ} → Paired K C i to → (k : ℕ) (T : Table) (L : List ℕ) → Written k T i to L
@@ -220,16 +229,16 @@ module _ (text : Bytes) (K S Z C : List ℕ) (f : Fixity) where
 
   module _ {i to : ℕ} (p : Paired K C i to) (T : Table) (L : List ℕ) where
     module _ (long : to ≤ length L) where
-      -- In the spans inside a range the numbers are those of the items' roles;
+      -- In the spans inside a range the numbers are the items' numbers of the column;
       roles-of-inner :
-          (k : ℕ) → All (RolesIn f (writtenRoles f (suc k) T i (part i to) L)) (allItemSpans (spans k) T i (items (part i to)))
-      unfolding writtenRoles
+          (k : ℕ) → All (RolesIn col (writtenColumn col (suc k) T i (part i to) L)) (allItemSpans (spans k) T i (items (part i to)))
+      unfolding writtenColumn
       roles-of-inner k = range-written p k T L .inner long (writes k T i to L) (λ j a b. refl)
 
       -- so in all of them, where the outermost's opener says where it begins.
       pub roles-of-spans :
           (k : ℕ) (o : Option ℕ) → contentsStart o ≡ i
-          → All (RolesIn f (writtenRoles f k T i (part i to) L)) (spans k T o i (part i to))
-      unfolding writtenRoles spans
+          → All (RolesIn col (writtenColumn col k T i (part i to) L)) (spans k T o i (part i to))
+      unfolding writtenColumn spans
       roles-of-spans zero o e = tt
       roles-of-spans (suc k) o e = (rw e (range-written p k T L .outer long (writes k T i to L) (λ j a b. refl)), roles-of-inner k)

@@ -1,4 +1,5 @@
--- The numbers of the roles of each item's first token, under the operators in force there.
+-- The numbers noted at each item's first token, under the operators in force there: of its roles, and whether it is a quoted name that
+-- is an operator.
 use mathlib.Core.Path.{_≡_}
 use mathlib.Core.Bool.{true, false}
 use mathlib.Core.List.{List, [], _∷_}
@@ -9,12 +10,13 @@ use lib.ListN.{length, take, drop, getD, set}
 use Rattle.grammar.specs.Bytes.{Bytes}
 use Rattle.grammar.specs.Token.{Token}
 use Rattle.grammar.specs.Outcome.{Outcome, refused, passed}
-use Rattle.grammar.specs.Operator.{Fixity, Prefix, Infix, Postfix, Table, role, Distinct}
-use Rattle.grammar.specs.Coded.{roleCode, tokensFrom}
+use Rattle.grammar.specs.Operator.{Fixity, Prefix, Infix, Postfix, Table, role, Distinct, Alive}
+use Rattle.grammar.specs.Coded.{roleCode, charactersIn, tokensFrom, nameNumber}
 use Rattle.grammar.specs.Span.{Item, single, pair, scope, itemTokens, items}
 use Rattle.grammar.specs.Search.{operatorAt}
 use Rattle.grammar.specs.Blocks.{bodyTable, tableBehind, checkBlocks}
 use Rattle.grammar.specs.Answer.{longestText}
+use Rattle.scan.specs.Tokens.{TokensFound}
 use Rattle.nesting.specs.Paired.{Paired}
 use Rattle.table.specs.Entries.{codedFind, tableOf, Sized, Coded}
 use Rattle.table.specs.declared.Table as E
@@ -45,14 +47,38 @@ codedClass text kind start size close S Z count =
           ]
     ]
 
+-- The number of a quoted name by its kind, offset and length: 1 if its characters are a listed name, else 0, as of any other kind.
+unfoldable pub foundNumber : Found → ℕ
+foundNumber (At i) = 1
+foundNumber Nothing = 0
+
+unfoldable pub codedNumber : Bytes → ℕ → ℕ → ℕ → List ℕ → List ℕ → ℕ → ℕ
+codedNumber text kind start size S Z count =
+    elim (eqb kind 3) [ true ↦ foundNumber (codedFind text S Z (charactersIn text kind start size) 0 count) | false ↦ 0 ]
+
 -- The number of an item's role of a fixity; 0 for an operand.
 unfoldable pub numberOf : Fixity → Table → Item → ℕ
 numberOf f T x = elim (operatorAt T x) [ none ↦ 0 | some w ↦ roleCode (role T w f) ]
 
--- The numbers of the roles of one fixity, written at the number of each item's first token; `inner` writes those of what is inside.
-module _ (f : Fixity) (inner : Table → ℕ → List Token → List ℕ → List ℕ) where
+-- The number of a quoted name that is an operator in force; 0 for every other item.
+unfoldable pub nameOf : Table → Item → ℕ
+nameOf T (single t) = nameNumber T t
+nameOf T (pair ts) = 0
+nameOf T (scope ds ts) = 0
+
+-- What is noted of each item: the number of its role of a fixity, or whether it is a quoted name that is an operator in force.
+pub data Column : Type 0 where
+  roles : Fixity → Column
+  names : Column
+
+unfoldable pub numberIn : Column → Table → Item → ℕ
+numberIn (roles f) T x = numberOf f T x
+numberIn names T x = nameOf T x
+
+-- The numbers of one column, written at the number of each item's first token; `inner` writes those of what is inside.
+module _ (col : Column) (inner : Table → ℕ → List Token → List ℕ → List ℕ) where
   unfoldable pub writeItem : Table → ℕ → Item → List ℕ → List ℕ
-  writeItem T i (single t) L = set L i (numberOf f T (single t))
+  writeItem T i (single t) L = set L i (numberIn col T (single t))
   writeItem T i (pair ts) L = inner T (suc i) ts (set L i 0)
   writeItem T i (scope ds ts) L = inner (bodyTable T ds) (suc (suc (i + length ds))) ts (set L i 0)
 
@@ -60,9 +86,9 @@ module _ (f : Fixity) (inner : Table → ℕ → List Token → List ℕ → Lis
   writeItems T i [] L = L
   writeItems T i (x ∷ xs) L = writeItems (tableBehind T x) (i + length (itemTokens x)) xs (writeItem T i x L)
 
-unfoldable pub writtenRoles : Fixity → ℕ → Table → ℕ → List Token → List ℕ → List ℕ
-writtenRoles f zero T i ts L = L
-writtenRoles f (suc k) T i ts L = writeItems f (writtenRoles f k) T i (items ts) L
+unfoldable pub writtenColumn : Column → ℕ → Table → ℕ → List Token → List ℕ → List ℕ
+writtenColumn col zero T i ts L = L
+writtenColumn col (suc k) T i ts L = writeItems col (writtenColumn col k) T i (items ts) L
 
 -- The operator table of these arrays.
 abbrev pub tableBy : List ℕ → List ℕ → List ℕ → List ℕ → List ℕ → ℕ → E.Table
@@ -73,21 +99,30 @@ pub record Resolvable (text : Bytes) (K S Z C : List ℕ) (from to : ℕ) (t : E
   pub inArrays : to ≤ 1024
   pub paired : Paired K C from to
   pub inText : (j : ℕ) → from ≤ j → j < to → getD S j 0 < longestText
+  pub found : TokensFound text K S Z from to
   pub sized : Sized t
   pub distinct : Distinct (tableOf text t)
+  pub alive : Alive (tableOf text t)
   pub coded : Coded t
 
--- What it answers and writes: 01's number and the token of a refusal; or 0 and the numbers of the roles. (What the arrays hold after
+-- What it answers and writes: 01's number and the token of a refusal; or 0 and the numbers of each column. (What the arrays hold after
 -- a refusal is not said: nobody reads them.)
-abbrev pub Resolving : ℕ → Table → ℕ → List Token → List ℕ → List ℕ → List ℕ → List ℕ → List ℕ → List ℕ → Checked → Outcome (Unit {0}) → Type 0
-Resolving k T i ts P I Q P′ I′ Q′ r (refused n p) = (r .number ≡ n) × (r .at ≡ p)
-Resolving k T i ts P I Q P′ I′ Q′ r (passed u) =
-    (r .number ≡ 0) × (P′ ≡ writtenRoles Prefix k T i ts P) × (I′ ≡ writtenRoles Infix k T i ts I) × (Q′ ≡ writtenRoles Postfix k T i ts Q)
+abbrev pub Resolving :
+    ℕ → Table → ℕ → List Token → List ℕ → List ℕ → List ℕ → List ℕ → List ℕ → List ℕ → List ℕ → List ℕ → Checked
+    → Outcome (Unit {0}) → Type 0
+Resolving k T i ts P I Q L P′ I′ Q′ L′ r (refused n p) = (r .number ≡ n) × (r .at ≡ p)
+Resolving k T i ts P I Q L P′ I′ Q′ L′ r (passed u) =
+    (r .number ≡ 0)
+    × (P′ ≡ writtenColumn (roles Prefix) k T i ts P)
+    × (I′ ≡ writtenColumn (roles Infix) k T i ts I)
+    × (Q′ ≡ writtenColumn (roles Postfix) k T i ts Q)
+    × (L′ ≡ writtenColumn names k T i ts L)
 
 -- That, of the tokens from `from` to `to`, whatever the fuel that is more than they are.
 abbrev pub Resolved :
-    Bytes → List ℕ → List ℕ → List ℕ → ℕ → ℕ → E.Table → List ℕ → List ℕ → List ℕ → List ℕ → List ℕ → List ℕ → Checked → Type 0
-Resolved text K S Z from to t P I Q P′ I′ Q′ r =
+    Bytes → List ℕ → List ℕ → List ℕ → ℕ → ℕ → E.Table → List ℕ → List ℕ → List ℕ → List ℕ → List ℕ → List ℕ → List ℕ → List ℕ → Checked
+    → Type 0
+Resolved text K S Z from to t P I Q L P′ I′ Q′ L′ r =
     let T = tableOf text t in
     let ts = tokensFrom text K S Z from (to - from) in
-    (k : ℕ) → to - from < k → Resolving k T from ts P I Q P′ I′ Q′ r (checkBlocks k T from ts)
+    (k : ℕ) → to - from < k → Resolving k T from ts P I Q L P′ I′ Q′ L′ r (checkBlocks k T from ts)

@@ -1,5 +1,5 @@
 // The roles in force of each token: document 01's "A word or sign without a role in force is a name", and refusals 8 to 10 over all
-// blocks.
+// blocks. And of each quoted name, whether its characters are an operator in force, so that it needs its quotes.
 use declarations::enter;
 use scan::tokens;
 use table::Found;
@@ -8,7 +8,7 @@ ghost use mathlib.Core.Path.{_≡_};
 ghost use Prim.Native.Nat.{_<_};
 ghost use lib.ListN.{set};
 ghost use Rattle.table.specs.Entries.{InTable};
-ghost use Rattle.resolve.specs.Resolved.{codedClass, tableBy, Resolvable, Resolved};
+ghost use Rattle.resolve.specs.Resolved.{codedClass, codedNumber, tableBy, Resolvable, Resolved};
 
 // A classified token: a name with offset and length, a number, an operator with its number in the table, a bracket pair or a block
 // with the number of its closing token (of a block: its `in`).
@@ -58,30 +58,62 @@ pub fn classify<'a>(
     Class::Name(start, size)
 }
 
+// 1 for a quoted name whose characters are one of the operators with those names, else 0: by a token's kind, offset and length.
+fn name_number<'a>(
+    text: &[u8],
+    kind: u8,
+    start: u16,
+    size: u8,
+    names: &'a [u16; 64],
+    lengths: &'a [u8; 64],
+    count: usize,
+) -> u8
+    requires { ⌜ InTable count ⌝ }
+    ensures { λ r. ⌜ r ≡ codedNumber (now (text .entry)) kind start size (now (names .entry)) (now (lengths .entry)) count ⌝ }
+{
+    if kind == 3 {
+        let name = tokens::characters(text, kind, start, size);
+        let f = table::find(text, names, lengths, count, name);
+        match f {
+            Found::At(_) => {
+                return 1;
+            }
+            Found::Nothing => {
+                return 0;
+            }
+        }
+    }
+    0
+}
+
 // Number 0, or the number of a refusal and of its token.
 pub struct Checked {
     pub number: u8,
     pub at: usize,
 }
 
-// The numbers of the three roles of the item at `i`.
+// The numbers of the item at `i`: of its three roles, and whether it is a quoted name that is an operator.
 fn store(
     prefixes: &mut [u16; 1024],
     infixes: &mut [u16; 1024],
     postfixes: &mut [u16; 1024],
+    listed: &mut [u8; 1024],
     i: usize,
     prefix: u16,
     infix: u16,
     postfix: u16,
+    name: u8,
 )
     requires { ⌜ i < 1024 ⌝ }
     ensures { λ r. ⌜ (now (prefixes .exit) ≡ set (now (prefixes .entry)) i prefix)
         × (now (infixes .exit) ≡ set (now (infixes .entry)) i «infix»)
-        × (now (postfixes .exit) ≡ set (now (postfixes .entry)) i postfix) ⌝ }
+        × (now (postfixes .exit) ≡ set (now (postfixes .entry)) i postfix)
+        × (now (listed .exit) ≡ set (now (listed .entry)) i name) ⌝ }
 {
     prefixes[i] = prefix;
     infixes[i] = infix;
     postfixes[i] = postfix;
+    listed[i] = name;
 }
 
 // The operators of these arrays as a table of their own (a copy, made once for each block).
@@ -106,8 +138,8 @@ fn packed<'a>(
     }
 }
 
-// The numbers of the roles of each item's first token, from `from` to `to` and inside, under the operators in force there: those of
-// the arrays `names` to `behind`, which are lent and not copied, and in a block those behind its declarations.
+// The numbers at each item's first token, from `from` to `to` and inside, under the operators in force there: those of the arrays
+// `names` to `behind`, which are lent and not copied, and in a block those behind its declarations.
 fn resolve_span<'a, 'b>(
     text: &[u8],
     kinds: &'a [u8; 1024],
@@ -125,13 +157,14 @@ fn resolve_span<'a, 'b>(
     prefixes: &mut [u16; 1024],
     infixes: &mut [u16; 1024],
     postfixes: &mut [u16; 1024],
+    listed: &mut [u8; 1024],
 ) -> Checked
     requires { ⌜ Resolvable (now text) (now kinds) (now starts) (now sizes) (now closes) from to
         (tableBy (now names) (now lengths) (now before) (now between) (now behind) count) ⌝ }
     ensures { λ r. ⌜ Resolved (now (text .entry)) (now (kinds .entry)) (now (starts .entry)) (now (sizes .entry)) from to
         (tableBy (now (names .entry)) (now (lengths .entry)) (now (before .entry)) (now (between .entry)) (now (behind .entry)) count)
-        (now (prefixes .entry)) (now (infixes .entry)) (now (postfixes .entry))
-        (now (prefixes .exit)) (now (infixes .exit)) (now (postfixes .exit)) r ⌝ }
+        (now (prefixes .entry)) (now (infixes .entry)) (now (postfixes .entry)) (now (listed .entry))
+        (now (prefixes .exit)) (now (infixes .exit)) (now (postfixes .exit)) (now (listed .exit)) r ⌝ }
 {
     let mut i = from;
     while i < to {
@@ -151,15 +184,17 @@ fn resolve_span<'a, 'b>(
                     prefixes,
                     infixes,
                     postfixes,
+                    listed,
                     i,
                     before[k],
                     between[k],
                     behind[k],
+                    0,
                 );
                 i += 1;
             }
             Class::Bracket(c) => {
-                store(prefixes, infixes, postfixes, i, 0, 0, 0);
+                store(prefixes, infixes, postfixes, listed, i, 0, 0, 0, 0);
                 let r = resolve_span(
                     text,
                     kinds,
@@ -177,6 +212,7 @@ fn resolve_span<'a, 'b>(
                     prefixes,
                     infixes,
                     postfixes,
+                    listed,
                 );
                 if r.number != 0 {
                     return r;
@@ -184,9 +220,9 @@ fn resolve_span<'a, 'b>(
                 i = c + 1;
             }
             Class::Block(c) => {
-                store(prefixes, infixes, postfixes, i, 0, 0, 0);
+                store(prefixes, infixes, postfixes, listed, i, 0, 0, 0, 0);
                 let outer = packed(names, lengths, before, between, behind, count);
-                let e = enter::enter(text, kinds, starts, sizes, i + 1, c, outer);
+                let e = enter::enter(text, starts, i + 1, c, outer);
                 if e.number != 0 {
                     return Checked {
                         number: e.number,
@@ -213,18 +249,20 @@ fn resolve_span<'a, 'b>(
                     prefixes,
                     infixes,
                     postfixes,
+                    listed,
                 );
                 if r.number != 0 {
                     return r;
                 }
                 i = end + 1;
             }
-            Class::Name(_, _) => {
-                store(prefixes, infixes, postfixes, i, 0, 0, 0);
+            Class::Name(start, size) => {
+                let n = name_number(text, kinds[i], start, size, names, lengths, count);
+                store(prefixes, infixes, postfixes, listed, i, 0, 0, 0, n);
                 i += 1;
             }
             Class::Number => {
-                store(prefixes, infixes, postfixes, i, 0, 0, 0);
+                store(prefixes, infixes, postfixes, listed, i, 0, 0, 0, 0);
                 i += 1;
             }
         }
@@ -232,7 +270,8 @@ fn resolve_span<'a, 'b>(
     Checked { number: 0, at: 0 }
 }
 
-// The numbers of the roles of each item's first token, from `from` to `to` and inside, under the operators in force there.
+// The numbers at each item's first token, from `from` to `to` and inside, under the operators in force there: of its three roles, and
+// in `listed` 1 for a quoted name that is an operator, else 0.
 pub fn resolve<'a>(
     text: &[u8],
     kinds: &'a [u8; 1024],
@@ -245,11 +284,12 @@ pub fn resolve<'a>(
     prefixes: &mut [u16; 1024],
     infixes: &mut [u16; 1024],
     postfixes: &mut [u16; 1024],
+    listed: &mut [u8; 1024],
 ) -> Checked
     requires { ⌜ Resolvable (now text) (now kinds) (now starts) (now sizes) (now closes) from to operators ⌝ }
     ensures { λ r. ⌜ Resolved (now (text .entry)) (now (kinds .entry)) (now (starts .entry)) (now (sizes .entry)) from to operators
-        (now (prefixes .entry)) (now (infixes .entry)) (now (postfixes .entry))
-        (now (prefixes .exit)) (now (infixes .exit)) (now (postfixes .exit)) r ⌝ }
+        (now (prefixes .entry)) (now (infixes .entry)) (now (postfixes .entry)) (now (listed .entry))
+        (now (prefixes .exit)) (now (infixes .exit)) (now (postfixes .exit)) (now (listed .exit)) r ⌝ }
 {
     let count = operators.count;
     resolve_span(
@@ -269,5 +309,6 @@ pub fn resolve<'a>(
         prefixes,
         infixes,
         postfixes,
+        listed,
     )
 }

@@ -8,25 +8,7 @@ use lib.ListN.{length, take, drop, getD, drop-of-length-le}
 use lib.Seq.{drop-drop}
 use borrow.Author.Tests.{le-leb, lt-leb, eq-eqb, ne-eqb}
 use Rattle.grammar.specs.Bytes.{Bytes}
-use Rattle.grammar.specs.Token.{
-  class,
-  blank,
-  letter,
-  digit,
-  sign,
-  quote,
-  opens,
-  closes,
-  separates,
-  isBlankByte,
-  inWord,
-  inSign,
-  inNumber,
-  inQuotes,
-  Token,
-  longestName,
-  longestNumber,
-}
+use Rattle.grammar.specs.Token.{class, blank, letter, digit, sign, quote, opens, closes, separates, isBlankByte, inWord, inSign, inNumber, Token, longestName, longestNumber}
 use Rattle.grammar.specs.Scan.{run, keywordOrSymbol, atMost, quotedName, frontOf, front}
 use Rattle.grammar.proofs.Runs.{Kind, words, signs, numbers}
 use Rattle.scan.specs.declared.tokens.Front.the-variants.{Nothing, Wrong, Taken}
@@ -39,10 +21,6 @@ use Rattle.scan.proofs.Suffixes.{drop-next}
 pub goes-word : goesOn letter ≡ inWord
 unfolding goesOn
 goes-word = refl
-
-pub goes-quotes : goesOn quote ≡ inQuotes
-unfolding goesOn
-goes-quotes = refl
 
 pub goes-sign : goesOn sign ≡ inSign
 unfolding goesOn inSign

@@ -1,12 +1,13 @@
 -- What the arrays hold when a scan has passed: what it found is all that the text holds, and the three arrays begin with the kinds,
 -- offsets and lengths of these tokens. So number `j` of each array is that of one token, which stands in the text.
-use mathlib.Core.Path.{_≡_, refl, sym, ap, _∙_}
+use mathlib.Core.Path.{_≡_, refl, sym, ap, ap₂, _∙_}
 use mathlib.Core.Bool.{true, true≢false}
 use mathlib.Core.List.{List, [], _∷_, _++_, map}
 use Prim.Native.Nat.{ℕ, zero, suc, _+_, _≤_, _<_}
+use native.Mathlib.Nat.{sub-zero}
 use native.Mathlib.Omega.{arith}
-use lib.ListN.{length, drop, getD, length-append, length-map, List·getD-append}
-use lib.Seq.{sets, sets-eq, getD-at}
+use lib.ListN.{length, take, drop, getD, length-append, length-map, List·getD-append}
+use lib.Seq.{sets, sets-eq, getD-at, take-append-seam}
 use Rattle.grammar.specs.Bytes.{Bytes}
 use Rattle.grammar.specs.Token.{
   isBlankByte,
@@ -31,11 +32,11 @@ use Rattle.grammar.specs.Token.{
 use Rattle.grammar.specs.Outcome.{Outcome, refused, passed}
 use Rattle.grammar.specs.Scan.{Placed, run, front, before, scan}
 use Rattle.grammar.specs.Scan as Scan
-use Rattle.grammar.specs.Coded.{kindOf, kindAt, startAt, sizeAt, tokensFrom}
+use Rattle.grammar.specs.Coded.{kindOf, kindAt, startAt, sizeAt, tokenAt, tokensFrom}
 use Rattle.grammar.specs.Answer.{longestText, mostTokens, tokensOf, startsOf, offsetOf}
 use Rattle.grammar.proofs.Logic.{and-left, and-right}
 use Rattle.grammar.proofs.Lists.{All, all-both}
-use Rattle.grammar.proofs.Offsets.{Stands, Ascend, token-offsets, offsets-ascend, arrays-tokens}
+use Rattle.grammar.proofs.Offsets.{Stands, Ascend, token-offsets, offsets-ascend, token-read, arrays-tokens}
 use Rattle.grammar.proofs.Scanned.{refused-not-passed, scan-tokens}
 use Rattle.scan.specs.declared.tokens.Scanned.{Scanned}
 use Rattle.scan.specs.Tokens.{foundIn, Scanning, Stored}
@@ -249,6 +250,28 @@ module _ {text : Bytes} {ps : List Placed} {K S Z : List ℕ} (v : Stored text p
 
     pub passed-quoted : getD K j 0 ≡ 3 → 2 ≤ getD Z j 0
     passed-quoted e = omega (arith, size, quoted-bytes (token .place .token) (sym kind ∙ e))
+
+    -- The arrays hold the token that stands there, with its kind and its bytes.
+    stands : drop (token .place .start) text ≡ spelling (token .place .token) ++ token .holds .1 .2 .0
+    stands = ap (λ n. drop n text) (sym (sub-zero (token .place .start))) ∙ token .holds .1 .2 .1
+
+    passed-token : tokenAt text K S Z j ≡ token .place .token
+    unfolding tokenAt
+    passed-token = rw (kind, start, size, tokenAt) (token-read text (token .place .token) (token .place .start) (token .holds .1 .2 .0) stands)
+
+    pub passed-kind : getD K j 0 ≡ kindOf (tokenAt text K S Z j)
+    passed-kind = kind ∙ ap kindOf (sym passed-token)
+
+    pub passed-spelled : take (getD Z j 0) (drop (getD S j 0) text) ≡ spelling (tokenAt text K S Z j)
+    passed-spelled =
+        ap₂ (λ n s. take n (drop s text)) size start ∙ ap (take (length (spelling (token .place .token)))) stands
+        ∙ take-append-seam (spelling (token .place .token)) (token .holds .1 .2 .0) ∙ ap spelling (sym passed-token)
+
+    -- At its offset the scanner finds it.
+    pub passed-front : front (drop (getD S j 0) text) ≡ Scan.taken (tokenAt text K S Z j) (getD Z j 0)
+    passed-front =
+        ap (λ n. front (drop n text)) (start ∙ sym (sub-zero (token .place .start))) ∙ token .holds .1 .3
+        ∙ ap₂ Scan.taken (sym passed-token) (sym size)
 
   -- Offsets ascend.
   pub passed-ascend : (i j : ℕ) → i ≤ j → j < length ps → getD S i 0 ≤ getD S j 0

@@ -87,6 +87,13 @@ coded-taken Scan.nothing k m e = let z : _≡_ {A = ℕ} 0 1 = cc in absurd (ome
 coded-taken (Scan.wrong j) k m e = let z : _≡_ {A = ℕ} 0 1 = cc in absurd (omega arith)
 coded-taken (Scan.taken t j) k m e = (t, ap (Scan.taken t) (cc), cc)
 
+-- A token that the code takes has at most 65 bytes.
+pub taken-size : (s : Bytes) {k m : ℕ} → codedFront (front s) ≡ Taken k m → m ≤ 65
+taken-size s {k} {m} e =
+    let (t, h, _) = coded-taken (front s) k m e in
+    let b : Begins s t m = subst (Told s) h (front-told s) in
+    omega (arith, token-size t (b .valid), b .size)
+
 -- The answer of a scan of the rest, behind `n` tokens.
 abbrev pub behind : ℕ → Outcome (List Placed) → Scanned
 behind n (refused k p) = Refused k p
@@ -220,9 +227,6 @@ module _
 
     told : Begins (drop at text) token m
     told = subst (Told (drop at text)) here (front-told (drop at text))
-
-    pub size-fits : m ≤ 65
-    size-fits = omega (arith, token-size token (told .valid), told .size)
 
     pub next-within : at + m ≤ length text
     next-within =

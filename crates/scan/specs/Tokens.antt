@@ -2,16 +2,16 @@
 use mathlib.Core.Path.{_≡_}
 use mathlib.Core.Bool.{true, false}
 use mathlib.Core.List.{List, [], _∷_, _++_, map}
-use Prim.Native.Nat.{ℕ, zero, suc, _+_, _≤_}
+use Prim.Native.Nat.{ℕ, zero, suc, _+_, _≤_, _<_}
 use lib.Dec.{leb}
-use lib.ListN.{length, drop}
+use lib.ListN.{length, drop, getD}
 use lib.Seq.{sets}
 use Rattle.grammar.specs.Bytes.{Bytes}
 use Rattle.grammar.specs.Token.{isBlankByte}
 use Rattle.grammar.specs.Outcome.{Outcome, refused, passed}
 use Rattle.grammar.specs.Scan.{Placed, run, front, scan}
 use Rattle.grammar.specs.Scan as Scan
-use Rattle.grammar.specs.Coded.{kindOf, kindAt, startAt, sizeAt}
+use Rattle.grammar.specs.Coded.{kindOf, tokenAt, kindAt, startAt, sizeAt}
 use Rattle.grammar.specs.Answer.{longestText, mostTokens}
 use Rattle.scan.specs.declared.tokens.Front.{Front}
 use Rattle.scan.specs.declared.tokens.Front.the-variants.{Nothing, Wrong, Taken}
@@ -64,3 +64,8 @@ pub record Stored (text : Bytes) (ps : List Placed) (K S Z : List ℕ) : Type 0 
   pub kinds : K ≡ map kindAt ps ++ kindsBehind
   pub starts : S ≡ map startAt ps ++ startsBehind
   pub sizes : Z ≡ map sizeAt ps ++ sizesBehind
+
+-- At the offset of each token from `from` to `to` the scanner finds that token.
+abbrev pub TokensFound : Bytes → List ℕ → List ℕ → List ℕ → ℕ → ℕ → Type 0
+TokensFound text K S Z from to =
+    (j : ℕ) → from ≤ j → j < to → front (drop (getD S j 0) text) ≡ Scan.taken (tokenAt text K S Z j) (getD Z j 0)

@@ -14,3 +14,9 @@ pub fn whole_words(a: &[u16; 1024])
 {
     let _entries: &[u16] = a;
 }
+
+pub fn whole_double_words(a: &[u32; 1024])
+    ensures { λ r. ⌜ length (now (a .entry)) ≡ 1024 ⌝ }
+{
+    let _entries: &[u32] = a;
+}

@@ -26,7 +26,7 @@ use Rattle.node.specs.NodeWords.{Arrays}
 use Rattle.tree.specs.Agreeing.{tokens, Agrees, ends, leaves, brackets, blocks}
 use Rattle.tree.proofs.TokenWords.{agrees-paired, agrees-known}
 use Rattle.tree.proofs.TreeWords.{agrees-slots}
-use Rattle.spans.specs.Judged.{openersIn, spanNodes, Judged, judgedAt, judgedSpans, codedOpener, codedSpans}
+use Rattle.spans.specs.Judged.{openersIn, spanRoot, spanNodes, Judged, judgedAt, judgedSpans, codedOpener, codedSpans}
 use Rattle.spans.specs.declared.Spans.the-variants.{Trees}
 use Rattle.spans.proofs.Openers.{openers, content-opens-none, openers-none, openers-next, openers-bracket, openers-block}
 
@@ -56,19 +56,19 @@ nodes-slots T is known = go (treeOfSpan T is) refl (eqb (partCode (map (slotOf T
         absurd (omega arith)
     go (some t) e false f = refl
 
-module _ (A : Arrays) (text : Bytes) where
+module _ (A : Arrays) (text : Bytes) (L : List ℕ) where
   -- The span from `from` to `to`, which `o` opens.
-  nodes-agreed : {T : Table} {from to : ℕ} (o : Option ℕ) → Agrees A text T from to
+  nodes-agreed : {T : Table} {from to : ℕ} (o : Option ℕ) → Agrees A text L T from to
       → judged (record { opener = o; table = T; contents = items (tokens A text from to) })
       ≡ record { opener = o; nodes = spanNodes A from to }
-  unfolding judged spanNodes
+  unfolding judged spanNodes spanRoot
   nodes-agreed {T} {from} {to} o h =
       let is = items (tokens A text from to) in
       let ns = itemNumbers (A .kinds) (A .closes) from to in
-      let slots : map (slotOfToken A) ns ≡ map (slotOf T) is = agrees-slots A text h in
+      let slots : map (slotOfToken A) ns ≡ map (slotOf T) is = agrees-slots A text L h in
       let size : length ns ≡ length is = sym (length-map ns (slotOfToken A)) ∙ ap length slots ∙ length-map is (slotOf T) in
       ap (λ n. record { opener = o; nodes = n })
-      (nodes-slots T is (agrees-known A text h)
+      (nodes-slots T is (agrees-known A text L h)
       ∙ sym (ap₂ {C = ℕ} (λ ss n. elim (eqb (partCode ss) noTree) [ true ↦ 0 | false ↦ n ]) slots size))
 
   -- The spans of the range from `i` to `to`, as the law has them.
@@ -78,7 +78,7 @@ module _ (A : Arrays) (text : Bytes) where
 
   -- The span that token `j` opens, those inside it and those behind it; its item has the places `o` and `next` by counting tokens.
   span-and-rest : (k : ℕ) (T U : Table) (o j next c to : ℕ) → o ≡ j → next ≡ suc c → getD (A .closes) j 0 ≡ c
-      → Agrees A text U (suc j) c → ByOpeners k U (suc j) c → ByOpeners (suc k) T (suc c) to
+      → Agrees A text L U (suc j) c → ByOpeners k U (suc j) c → ByOpeners (suc k) T (suc c) to
       → map judged
       (spans (suc k) U (some o) (suc o) (tokens A text (suc j) c)
       ++ allItemSpans (spans (suc k)) T next (items (tokens A text (suc c) to)))
@@ -93,11 +93,11 @@ module _ (A : Arrays) (text : Bytes) where
       ∙ sym (map-append (judgedAt A) (openers (A .kinds) (suc j) c) (openers (A .kinds) (suc c) to))))
 
   -- The spans of the items of a range that agrees.
-  item-spans-judged : (k : ℕ) {T : Table} {i to : ℕ} → Agrees A text T i to → to - i ≤ k
+  item-spans-judged : (k : ℕ) {T : Table} {i to : ℕ} → Agrees A text L T i to → to - i ≤ k
       → map judged (allItemSpans (spans k) T i (items (tokens A text i to))) ≡ map (judgedAt A) (openersIn (A .kinds) i (to - i))
   unfolding allItemSpans itemSpans itemTokens spans
   item-spans-judged k (ends {to = to}) h = rw (items-done text (A .kinds) (A .starts) (A .sizes) to, openers-none (A .kinds) to)
-  item-spans-judged k (leaves {i = i} {to = to} l q s p) h =
+  item-spans-judged k (leaves {i = i} {to = to} l q s g p) h =
       let e : i + 1 ≡ suc i = omega arith in
       rw (
         items-content text (A .kinds) (A .starts) (A .sizes) i to l (q .isContent),
@@ -110,7 +110,7 @@ module _ (A : Arrays) (text : Bytes) where
       let ts = tokens A text (suc i) c in
       let behind = behind-pair text (A .kinds) (A .starts) (A .sizes) i c l in
       rw (
-        items-bracket text (A .kinds) (A .starts) (A .sizes) i c to q l m y (agrees-paired A text p),
+        items-bracket text (A .kinds) (A .starts) (A .sizes) i c to q l m y (agrees-paired A text L p),
         openers-bracket (A .kinds) i c to l m q y,
       )
       (span-and-rest k T T i i _ c to refl behind w p (item-spans-judged k p (omega arith)) (item-spans-judged (suc k) r (omega arith)))
@@ -121,7 +121,7 @@ module _ (A : Arrays) (text : Bytes) where
       let at : suc (i + length ds) ≡ c = omega (arith, length-range text (A .kinds) (A .starts) (A .sizes) (suc i) c) in
       let behind = behind-scope text (A .kinds) (A .starts) (A .sizes) i c e l m in
       rw (
-        items-block text (A .kinds) (A .starts) (A .sizes) i c e to q l m n y z f (agrees-paired A text p),
+        items-block text (A .kinds) (A .starts) (A .sizes) i c e to q l m n y z f (agrees-paired A text L p),
         openers-block (A .kinds) i c e to l m n q y z f,
       )
       (span-and-rest k T (bodyTable T ds) _ c _ e to at behind v p (item-spans-judged k p (omega arith))
@@ -129,13 +129,13 @@ module _ (A : Arrays) (text : Bytes) where
 
 -- The spans of a text: the whole text, then one for each token that opens one.
 pub spans-judged :
-    (A : Arrays) (text : Bytes) (k : ℕ) (T : Table) (n : ℕ) → Agrees A text T 0 n → n < k
+    (A : Arrays) (text : Bytes) (L : List ℕ) (k : ℕ) (T : Table) (n : ℕ) → Agrees A text L T 0 n → n < k
     → map judged (spans k T none 0 (tokens A text 0 n)) ≡ judgedSpans A n
 unfolding spans judgedSpans
-spans-judged A text zero T n h l = absurd (omega arith)
-spans-judged A text (suc k) T n h l =
-    ap₂ _∷_ (nodes-agreed A text none h)
-    (item-spans-judged A text k h (omega arith) ∙ ap (λ m. map (judgedAt A) (openersIn (A .kinds) 0 m)) (omega arith))
+spans-judged A text L zero T n h l = absurd (omega arith)
+spans-judged A text L (suc k) T n h l =
+    ap₂ _∷_ (nodes-agreed A text L none h)
+    (item-spans-judged A text L k h (omega arith) ∙ ap (λ m. map (judgedAt A) (openersIn (A .kinds) 0 m)) (omega arith))
 
 -- The code of the spans where the first has no tree, and where it has one.
 coded-here : (s : Span) (ss : List Span) (n : ℕ) → treeOfSpan (s .table) (s .contents) ≡ none

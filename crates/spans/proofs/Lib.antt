@@ -1,3 +1,4 @@
 pub mod Openers
 pub mod Agreed
 pub mod Steps
+pub mod Roots

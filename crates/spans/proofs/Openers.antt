@@ -4,11 +4,11 @@ use mathlib.Core.Bool.{Bool, true, false}
 use mathlib.Core.List.{List, [], _∷_, _++_}
 use Prim.Native.Nat.{ℕ, zero, suc, _+_, _-_, _≤_, _<_}
 use native.Mathlib.Omega.{arith}
-use lib.Dec.{ltb}
-use borrow.Author.Tests.{ltb-true, ltb-false}
+use lib.Dec.{eqb}
+use borrow.Author.Tests.{eqb-true}
 use lib.ListN.{getD}
-use Rattle.grammar.proofs.Logic.{clash}
-use Rattle.nesting.specs.Paired.{IsContentKind, IsQuietKind, Paired, done, content, bracket, block}
+use Rattle.nesting.specs.Paired.{IsContentKind, IsQuietKind, Paired}
+use Rattle.nesting.proofs.PairedClosers.{closed}
 use Rattle.spans.specs.Judged.{opensSpan, openersIn}
 
 -- Content and the tokens of declarations open none.
@@ -31,20 +31,16 @@ content-opens-none k c =
 opens : (k m : ℕ) (b : Bool) → k ≡ m → opensSpan m ≡ b → opensSpan k ≡ b
 opens k m b e f = rw e f
 
+-- What opens one and is not `(` is `in`.
+opens-in : (k : ℕ) → eqb k 4 ≡ false → opensSpan k ≡ true → k ≡ 8
+unfolding opensSpan
+opens-in k n o = eqb-true k 8 (rw (n, opensSpan) at o)
+
 -- A first number that may be kept, before two lists.
 kept-append : (b : Bool) (i : ℕ) (xs ys zs : List ℕ) → xs ≡ ys ++ zs
     → elim b as (λ x. List ℕ) [ true ↦ i ∷ xs | false ↦ xs ] ≡ elim b as (λ x. List ℕ) [ true ↦ i ∷ ys | false ↦ ys ] ++ zs
 kept-append true i xs ys zs e = ap (λ ts. i ∷ ts) e
 kept-append false i xs ys zs e = e
-
--- A place before another, at it or behind it.
-by-place : (P : ℕ → Type 0) (c j : ℕ) → (j < c → P j) → P c → (c < j → P j) → P j
-by-place P c j f here g = go (ltb j c) refl (ltb c j) refl
-  where
-    go : (a : Bool) → ltb j c ≡ a → (b : Bool) → ltb c j ≡ b → P j
-    go true x b y = f (ltb-true j c x)
-    go false x true y = g (ltb-true c j y)
-    go false x false y = let e : j ≡ c = omega (arith, ltb-false j c x, ltb-false c j y) in rw e here
 
 module _ (K : List ℕ) where
   -- The openers from number `i` to number `to`.
@@ -106,57 +102,11 @@ module _ (K : List ℕ) where
       ∙ rw q (openers-here c to (omega arith) (opens _ 8 true y refl))
       ∙ ap (λ js. c ∷ js) (openers-cut (suc c) e to m n (opens _ 9 false z refl))
 
-  -- What is to be known of token `j` of a range up to `to`: its closer stands behind it in the range, and what a span's opener and its
-  -- closer enclose is paired.
-  record Known (C : List ℕ) (to j : ℕ) : Type 0 where
-    ofSpan : opensSpan (getD K j 0) ≡ true → (j < getD C j 0) × (getD C j 0 < to) × Paired K C (suc j) (getD C j 0)
-    ofLet : getD K j 0 ≡ 7 → (j < getD C j 0) × (getD C j 0 < to)
-
-  -- A token of another kind.
-  neither : (C : List ℕ) (to j : ℕ) → opensSpan (getD K j 0) ≡ false → (getD K j 0 ≡ 7 → ⊥) → Known C to j
-  neither C to j o e = record { ofSpan = λ p. absurd (clash p o); ofLet = λ p. absurd (e p) }
-
-  -- What holds in a part of a range holds in the range.
-  known-wider : (C : List ℕ) (c to j : ℕ) → c ≤ to → Known C c j → Known C to j
-  known-wider C c to j l h =
-      record {
-        ofSpan = λ p. let r = h .ofSpan p in (r .0, omega (arith, r .1), r .2);
-        ofLet = λ p. let r = h .ofLet p in (r .0, omega (arith, r .1));
-      }
-
-  known : {C : List ℕ} {i to : ℕ} → Paired K C i to → (j : ℕ) → i ≤ j → j < to → Known C to j
-  unfolding opensSpan
-  known done j a b = absurd (omega arith)
-  known {C} (content {i = i} {to = to} l k p) j a b =
-      by-place (Known C to) i j (λ x. absurd (omega arith)) (neither C to i (content-opens-none _ k) (λ e. omega (arith, k .1)))
-      (λ x. known p j x b)
-  known {C} (bracket {i = i} {to = to} c k w l m y p q) j a b =
-      by-place (Known C to) i j (λ x. absurd (omega arith))
-      (record { ofSpan = λ o. rw w (l, m, p); ofLet = λ e. absurd (omega arith) })
-      (λ x.
-      by-place (Known C to) c j
-      (λ z. known-wider C c to j (omega arith) (known p j x z))
-      (neither C to c (opens _ 5 false y refl) (λ e. omega arith))
-      (λ z. known q j z b))
-  known {C} (block {i = i} {to = to} c e k w v l m n y z f p q) j a b =
-      by-place (Known C to) i j (λ x. absurd (omega arith))
-      (record { ofSpan = λ o. absurd (clash o (opens _ 7 false k refl)); ofLet = λ d. rw w (l, omega arith) })
-      (λ x.
-      by-place (Known C to) c j
-      (λ u. neither C to j (quiet-opens-none _ (f j x u)) (λ d. omega (arith, f j x u .1)))
-      (record { ofSpan = λ o. rw v (m, n, p); ofLet = λ d. absurd (omega arith) })
-      (λ u.
-      by-place (Known C to) e j
-      (λ r. known-wider C e to j (omega arith) (known p j u r))
-      (neither C to e (opens _ 9 false z refl) (λ d. omega arith))
-      (λ r. known q j r b)))
-
   -- Where token `j` of a paired range opens a span, the span's tokens are those up to its closer, and they are paired.
   pub opener-within : {C : List ℕ} {i to : ℕ} → Paired K C i to → (j : ℕ) → i ≤ j → j < to → opensSpan (getD K j 0) ≡ true
       → (j < getD C j 0) × (getD C j 0 < to) × Paired K C (suc j) (getD C j 0)
-  opener-within p j a b = known p j a b .ofSpan
-
-  -- The `in` of a block stands behind its `let`.
-  pub let-within : {C : List ℕ} {i to : ℕ} → Paired K C i to → (j : ℕ) → i ≤ j → j < to → getD K j 0 ≡ 7
-      → (j < getD C j 0) × (getD C j 0 < to)
-  let-within p j a b = known p j a b .ofLet
+  opener-within {C} {i} {to} p j a b o = go (eqb (getD K j 0) 4) refl
+    where
+      go : (t : Bool) → eqb (getD K j 0) 4 ≡ t → (j < getD C j 0) × (getD C j 0 < to) × Paired K C (suc j) (getD C j 0)
+      go true x = let r = closed p j a b .ofBracket (eqb-true _ _ x) in (r .0, r .1, r .3)
+      go false x = closed p j a b .ofIn (opens-in (getD K j 0) x o)

@@ -8,7 +8,7 @@ use native.Mathlib.Numerals.{add-one}
 use native.Mathlib.Omega.{arith}
 use lib.Dec.{eqb}
 use borrow.Author.Tests.{eq-eqb, ne-eqb, eqb-true, eqb-false}
-use lib.ListN.{length, getD}
+use lib.ListN.{length, getD, set}
 use lib.Seq.{sets, length-sets}
 use Rattle.layout.specs.Filled.{itemNumbers, pick, Fillable, Filled}
 use Rattle.layout.proofs.Laws.{few-items}
@@ -16,8 +16,22 @@ use Rattle.search.specs.Slots.{slotsIn, partCode, noTree, InRange, Hint}
 use Rattle.tree.specs.Built.{slotOfToken}
 use Rattle.node.specs.NodeWords.{Arrays, arrays}
 use Rattle.tree.proofs.Entries.{slots-filled}
+use Rattle.spans.specs.declared.Spans.{Spans}
 use Rattle.spans.specs.declared.Spans.the-variants.{Trees, NoTree, NoTreeBehind}
-use Rattle.spans.specs.Judged.{opensSpan, openersIn, Judged, spanNodes, judgedAt, judgedSpans, codedOpener, codedSpans, Checkable}
+use Rattle.spans.specs.Judged.{
+  opensSpan,
+  openersIn,
+  Judged,
+  spanRoot,
+  spanNodes,
+  judgedAt,
+  judgedSpans,
+  codedOpener,
+  codedSpans,
+  notedRoots,
+  textRoots,
+  Checkable,
+}
 use Rattle.spans.proofs.Openers.{openers, openers-none, openers-here, openers-next, opener-within}
 
 -- A span whose items are filled in from entry 0 on.
@@ -47,18 +61,19 @@ module _ {K C P I Q : List ℕ} {from to : ℕ} {M A B D M′ A′ B′ D′ : L
 
   module _ (a : length A′ ≡ 1024) (b : length B′ ≡ 1024) (d : length D′ ≡ 1024) {r : ℕ}
       (e : r ≡ partCode (slotsIn A′ B′ D′ 0 (n - 0))) where
-    -- What the search answers is the number of the span's tree.
-    searched : partCode (map (slotOfToken (arrays K [] [] C P I Q)) (itemNumbers K C from to)) ≡ r
-    searched = sym (e ∙ ap partCode (filled-slots a b d))
+    -- What the search answers is the number of the root of the span.
+    pub root-found : r ≡ spanRoot (arrays K [] [] C P I Q) from to
+    unfolding spanRoot
+    root-found = e ∙ ap partCode (filled-slots a b d)
 
     -- What the code answers is the number of nodes: 0 without a tree, else the number of items.
     pub nodes-none : r ≡ noTree → 0 ≡ spanNodes (arrays K [] [] C P I Q) from to
     unfolding spanNodes
-    nodes-none f = rw (eq-eqb _ _ (searched ∙ f), spanNodes)
+    nodes-none f = rw (eq-eqb _ _ (sym root-found ∙ f), spanNodes)
 
     pub nodes-some : (r ≡ noTree → ⊥) → n ≡ spanNodes (arrays K [] [] C P I Q) from to
     unfolding spanNodes
-    nodes-some f = rw (ne-eqb _ _ (λ x. f (sym searched ∙ x)), spanNodes) (omega arith)
+    nodes-some f = rw (ne-eqb _ _ (λ x. f (root-found ∙ x)), spanNodes) (omega arith)
 
 -- The answer over a list of spans: none left, a first one without a tree, and one that has a tree.
 coded-none : (t : ℕ) → codedSpans t [] ≡ Trees t
@@ -73,16 +88,18 @@ coded-counted : (t : ℕ) (s : Judged) (ss : List Judged) → (s .nodes ≡ 0 �
 unfolding codedSpans
 coded-counted t s ss e = rw (ne-eqb _ _ e, codedSpans)
 
--- A span without a tree is opened by one of the tokens.
-coded-first :
-    (t j : ℕ) (s : Judged) (ss : List Judged) → codedSpans t (s ∷ ss) ≡ NoTreeBehind j
-    → (codedOpener (s .opener) ≡ NoTreeBehind j) ⊎ (codedSpans (t + s .nodes) ss ≡ NoTreeBehind j)
-coded-first t j s ss e = go (eqb (s .nodes) 0) refl
+-- The first span has no tree and the answer is its place, or it has one and the answer is that of the others.
+pub coded-first :
+    (t : ℕ) (s : Judged) (ss : List Judged) (r : Spans) → codedSpans t (s ∷ ss) ≡ r
+    → (codedOpener (s .opener) ≡ r) ⊎ ((s .nodes ≡ 0 → ⊥) × (codedSpans (t + s .nodes) ss ≡ r))
+coded-first t s ss r e = go (eqb (s .nodes) 0) refl
   where
-    go : (b : Bool) → eqb (s .nodes) 0 ≡ b → (codedOpener (s .opener) ≡ NoTreeBehind j) ⊎ (codedSpans (t + s .nodes) ss ≡ NoTreeBehind j)
+    go : (b : Bool) → eqb (s .nodes) 0 ≡ b
+        → (codedOpener (s .opener) ≡ r) ⊎ ((s .nodes ≡ 0 → ⊥) × (codedSpans (t + s .nodes) ss ≡ r))
     go true f = inl (sym (coded-refused t s ss (eqb-true _ _ f)) ∙ e)
-    go false f = inr (sym (coded-counted t s ss (eqb-false _ _ f)) ∙ e)
+    go false f = let z = eqb-false _ _ f in inr (z, sym (coded-counted t s ss z) ∙ e)
 
+-- A span without a tree is opened by one of the tokens.
 behind-among : (A : Arrays) (k i t j : ℕ) → codedSpans t (map (judgedAt A) (openersIn (A .kinds) i k)) ≡ NoTreeBehind j → j < i + k
 unfolding codedSpans openersIn judgedAt codedOpener
 behind-among A zero i t j e = let z : Trees t ≡ NoTreeBehind j = e in let y : _≡_ {A = ℕ} 0 1 = cc in absurd (omega arith)
@@ -91,33 +108,64 @@ behind-among A (suc k) i t j e = go (opensSpan (getD (A .kinds) i 0)) refl (λ u
     go : (b : Bool) → opensSpan (getD (A .kinds) i 0) ≡ b
         → ((u : ℕ) → codedSpans u (map (judgedAt A) (openersIn (A .kinds) (suc i) k)) ≡ NoTreeBehind j → j < suc i + k) → j < i + suc k
     go true o ih =
-        ⊎-elim (λ f. let z : NoTreeBehind i ≡ NoTreeBehind j = f in let y : i ≡ j = cc in omega arith) (λ f. omega (arith, ih _ f))
-        (coded-first t j (judgedAt A i) (map (judgedAt A) (openersIn (A .kinds) (suc i) k)) (rw (o, openersIn) at e))
+        ⊎-elim (λ f. let z : NoTreeBehind i ≡ NoTreeBehind j = f in let y : i ≡ j = cc in omega arith) (λ f. omega (arith, ih _ (f .1)))
+        (coded-first t (judgedAt A i) (map (judgedAt A) (openersIn (A .kinds) (suc i) k)) _ (rw (o, openersIn) at e))
     go false o ih = omega (arith, ih t (rw (o, openersIn) at e))
 
 pub behind-opener : (A : Arrays) (n j : ℕ) → codedSpans 0 (judgedSpans A n) ≡ NoTreeBehind j → j < n
 unfolding judgedSpans codedOpener
 behind-opener A n j e =
     ⊎-elim (λ f. let z : NoTree ≡ NoTreeBehind j = f in let y : _≡_ {A = ℕ} 0 1 = cc in absurd (omega arith))
-    (λ f. omega (arith, behind-among A n 0 (0 + spanNodes A 0 n) j f)) (coded-first 0 j _ _ e)
+    (λ f. omega (arith, behind-among A n 0 (0 + spanNodes A 0 n) j (f .1))) (coded-first 0 _ _ _ e)
 
--- The loop's invariant: the spans that are opened from token `i` on, with `total` nodes before them, give the answer for the text.
-pub record Checking (A : Arrays) (count total i : ℕ) : Type 0 where
+-- The noted roots: no opener left, one whose span has no tree, and one whose span has one.
+module _ (A : Arrays) where
+  pub noted-none : (R : List ℕ) → notedRoots A [] R ≡ R
+  unfolding notedRoots
+  noted-none R = refl
+
+  pub noted-refused : (j : ℕ) (js R : List ℕ) → spanNodes A (suc j) (getD (A .closes) j 0) ≡ 0 → notedRoots A (j ∷ js) R ≡ R
+  unfolding notedRoots
+  noted-refused j js R e = rw (eq-eqb _ _ e, notedRoots)
+
+  pub noted-next : (j : ℕ) (js R : List ℕ) → (spanNodes A (suc j) (getD (A .closes) j 0) ≡ 0 → ⊥)
+      → notedRoots A (j ∷ js) R ≡ notedRoots A js (set R j (spanRoot A (suc j) (getD (A .closes) j 0)))
+  unfolding notedRoots
+  noted-next j js R e = rw (ne-eqb _ _ e, notedRoots)
+
+  -- Of a text without a tree, and of another.
+  pub roots-none : (count : ℕ) (R : List ℕ) → spanNodes A 0 count ≡ 0 → textRoots A count R ≡ R
+  unfolding textRoots
+  roots-none count R e = rw (eq-eqb _ _ e, textRoots)
+
+  pub roots-some : (count : ℕ) (R : List ℕ) → (spanNodes A 0 count ≡ 0 → ⊥)
+      → textRoots A count R ≡ notedRoots A (openersIn (A .kinds) 0 count) R
+  unfolding textRoots
+  roots-some count R e = rw (ne-eqb _ _ e, textRoots)
+
+-- What the check promises: its answer, and the roots noted in an array that held `R₀`.
+abbrev Checked : Arrays → ℕ → List ℕ → Spans → List ℕ → Type 0
+Checked A count R₀ r R = (r ≡ codedSpans 0 (judgedSpans A count)) × (R ≡ textRoots A count R₀)
+
+-- The loop's invariant: the spans that are opened from token `i` on, with `total` nodes before them, give the answer for the text, and
+-- their roots noted in `R` give those of the text.
+pub record Checking (A : Arrays) (count : ℕ) (R₀ : List ℕ) (total i : ℕ) (R : List ℕ) : Type 0 where
   pub asked : Checkable (A .kinds) (A .closes) count
   pub within : i ≤ count
   pub few : total ≤ (i + 1) * 1024
   pub answer : codedSpans 0 (judgedSpans A count) ≡ codedSpans total (map (judgedAt A) (openers (A .kinds) i count))
+  pub noted : textRoots A count R₀ ≡ notedRoots A (openers (A .kinds) i count) R
 
 -- The whole text comes first.
 pub text-fills : {K C : List ℕ} {count : ℕ} → Checkable K C count → Fillable K C 0 count 0
 text-fills h = record { ordered = omega arith; inArrays = h .inArrays; paired = h .paired; room = omega arith }
 
-module _ (A : Arrays) (count : ℕ) {n : ℕ} (e : n ≡ spanNodes A 0 count) where
-  pub text-none : n ≡ 0 → NoTree ≡ codedSpans 0 (judgedSpans A count)
+module _ (A : Arrays) (count : ℕ) (R₀ : List ℕ) {n : ℕ} (e : n ≡ spanNodes A 0 count) where
+  pub text-none : n ≡ 0 → Checked A count R₀ NoTree R₀
   unfolding judgedSpans codedOpener
-  text-none z = sym (coded-refused 0 _ _ (sym e ∙ z))
+  text-none z = (sym (coded-refused 0 _ _ (sym e ∙ z)), sym (roots-none A count R₀ (sym e ∙ z)))
 
-  pub checking-starts : Checkable (A .kinds) (A .closes) count → n ≤ 1024 → (n ≡ 0 → ⊥) → Checking A count n 0
+  pub checking-starts : Checkable (A .kinds) (A .closes) count → n ≤ 1024 → (n ≡ 0 → ⊥) → Checking A count R₀ n 0 R₀
   unfolding judgedSpans
   checking-starts h l z =
       let f : 0 + spanNodes A 0 count ≡ n = omega arith in
@@ -127,26 +175,31 @@ module _ (A : Arrays) (count : ℕ) {n : ℕ} (e : n ≡ spanNodes A 0 count) wh
         within = omega arith;
         few = omega arith;
         answer = coded-counted 0 _ _ (λ x. z (e ∙ x)) ∙ rw (f, g);
+        noted = roots-some A count R₀ (λ x. z (e ∙ x)) ∙ rw g;
       }
 
-module _ {A : Arrays} {count total i : ℕ} (h : Checking A count total i) where
+module _ {A : Arrays} {count : ℕ} {R₀ : List ℕ} {total i : ℕ} {R : List ℕ} (h : Checking A count R₀ total i R) where
   -- Behind the last token.
-  pub checking-ends : count ≤ i → Trees total ≡ codedSpans 0 (judgedSpans A count)
+  pub checking-ends : count ≤ i → Checked A count R₀ (Trees total) R
   checking-ends l =
       let e : i ≡ count = omega arith in
-      let f : openers (A .kinds) i count ≡ [] = rw e (openers-none (A .kinds) count) in
-      sym (h .answer ∙ ap (λ js. codedSpans total (map (judgedAt A) js)) f ∙ coded-none total)
+      let f : openers (A .kinds) i count ≡ [] = rw e (openers-none (A .kinds) count) in (
+        sym (h .answer ∙ ap (λ js. codedSpans total (map (judgedAt A) js)) f ∙ coded-none total),
+        sym (h .noted ∙ ap (λ js. notedRoots A js R) f ∙ noted-none A R),
+      )
 
   module _ (l : i < count) where
     -- A token that opens no span.
-    pub checking-passes : opensSpan (getD (A .kinds) i 0) ≡ false → Checking A count total (i + 1)
+    pub checking-passes : opensSpan (getD (A .kinds) i 0) ≡ false → Checking A count R₀ total (i + 1) R
     checking-passes o =
+        let next = openers-next (A .kinds) i count l o in
         rw add-one
         (record {
           asked = h .asked;
           within = l;
           few = omega arith;
-          answer = h .answer ∙ ap (λ js. codedSpans total (map (judgedAt A) js)) (openers-next (A .kinds) i count l o);
+          answer = h .answer ∙ ap (λ js. codedSpans total (map (judgedAt A) js)) next;
+          noted = h .noted ∙ ap (λ js. notedRoots A js R) next;
         })
 
     -- A token that opens one.
@@ -158,21 +211,35 @@ module _ {A : Arrays} {count total i : ℕ} (h : Checking A count total i) where
           (record { ordered = w .0; inArrays = omega arith; paired = w .2; room = omega arith })
 
       module _ {n : ℕ} (e : n ≡ spanNodes A (i + 1) (getD (A .closes) i 0)) where
+        nodes : spanNodes A (suc i) (getD (A .closes) i 0) ≡ n
+        nodes = sym (rw add-one at e)
+
         judged : judgedAt A i .nodes ≡ n
         unfolding judgedAt
-        judged = sym (rw add-one at e)
+        judged = nodes
 
         -- Its span is the first of those that are left.
+        here : openers (A .kinds) i count ≡ i ∷ openers (A .kinds) (suc i) count
+        here = openers-here (A .kinds) i count l o
+
         first-left : codedSpans 0 (judgedSpans A count)
             ≡ codedSpans total (judgedAt A i ∷ map (judgedAt A) (openers (A .kinds) (suc i) count))
-        first-left = h .answer ∙ ap (λ js. codedSpans total (map (judgedAt A) js)) (openers-here (A .kinds) i count l o)
+        first-left = h .answer ∙ ap (λ js. codedSpans total (map (judgedAt A) js)) here
 
-        pub span-none : n ≡ 0 → NoTreeBehind i ≡ codedSpans 0 (judgedSpans A count)
+        first-noted : textRoots A count R₀ ≡ notedRoots A (i ∷ openers (A .kinds) (suc i) count) R
+        first-noted = h .noted ∙ ap (λ js. notedRoots A js R) here
+
+        pub span-none : n ≡ 0 → Checked A count R₀ (NoTreeBehind i) R
         unfolding judgedAt codedOpener
-        span-none z = sym (first-left ∙ coded-refused total _ _ (judged ∙ z))
+        span-none z = (
+          sym (first-left ∙ coded-refused total _ _ (judged ∙ z)),
+          sym (first-noted ∙ noted-refused A i (openers (A .kinds) (suc i) count) R (nodes ∙ z)),
+        )
 
-        pub span-counts : n ≤ 1024 → (n ≡ 0 → ⊥) → Checking A count (total + n) (i + 1)
-        span-counts m z =
+        pub span-counts : n ≤ 1024 → (n ≡ 0 → ⊥) → {r : ℕ} → r ≡ spanRoot A (i + 1) (getD (A .closes) i 0)
+            → Checking A count R₀ (total + n) (i + 1) (set R i r)
+        span-counts m z {r} q =
+            let root : spanRoot A (suc i) (getD (A .closes) i 0) ≡ r = sym (rw add-one at q) in
             rw add-one
             (record {
               asked = h .asked;
@@ -182,4 +249,8 @@ module _ {A : Arrays} {count total i : ℕ} (h : Checking A count total i) where
                   first-left
                   ∙ coded-counted total _ _ (λ x. z (sym judged ∙ x))
                   ∙ ap (λ k. codedSpans (total + k) (map (judgedAt A) (openers (A .kinds) (suc i) count))) judged;
+              noted =
+                  first-noted
+                  ∙ noted-next A i (openers (A .kinds) (suc i) count) R (λ x. z (sym nodes ∙ x))
+                  ∙ ap (λ x. notedRoots A (openers (A .kinds) (suc i) count) (set R i x)) root;
             })

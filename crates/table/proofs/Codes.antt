@@ -80,14 +80,6 @@ no-role-code : IsCode 0
 unfolding roleCode
 no-role-code = role-code none
 
-pub is-code : (v a : ℕ) → 1 ≤ a → a ≤ 3 → IsCode (v * 4 + a)
-unfolding roleCode
-is-code v a h k =
-    let e = associativity-code a h k in
-    let c : IsCode (v * 4 + associativityCode (associativityOf a)) =
-    role-code (some (record { precedence = v; associativity = associativityOf a })) in
-    rw e at c
-
 -- Every number of an array is one, those behind its end too: of an array whose numbers pass the test ..
 abbrev Codes : List ℕ → Type 0
 Codes cs = (j : ℕ) → IsCode (getD cs j 0)

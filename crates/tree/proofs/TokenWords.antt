@@ -12,7 +12,7 @@ use Rattle.grammar.specs.Token.{Token, symbol, number, quoted}
 use Rattle.grammar.specs.Operator.{Table, role, hasRole, inForce}
 use Rattle.grammar.specs.Declaration.{declarations, allTokens}
 use Rattle.grammar.specs.Span.{Item, single, pair, scope, itemTokens, items}
-use Rattle.grammar.specs.Coded.{tokenOf, tokenAt, charactersIn}
+use Rattle.grammar.specs.Coded.{tokenOf, tokenAt, charactersIn, nameNumber}
 use Rattle.grammar.specs.Blocks.{bodyTable}
 use Rattle.grammar.specs.Tree.{leaf}
 use Rattle.grammar.specs.Nodes.{nodeWords, leafKind, charactersOffset, characters, words}
@@ -27,10 +27,10 @@ use Rattle.tree.specs.Built.{slotOfToken}
 use Rattle.node.specs.NodeWords.{Arrays, tokenNode}
 use Rattle.tree.specs.Agreeing.{tokens, token, Stands, Agrees, ends, leaves, brackets, blocks}
 
-module _ (A : Arrays) (text : Bytes) where
-  pub agrees-paired : {T : Table} {i to : ℕ} → Agrees A text T i to → Paired (A .kinds) (A .closes) i to
+module _ (A : Arrays) (text : Bytes) (L : List ℕ) where
+  pub agrees-paired : {T : Table} {i to : ℕ} → Agrees A text L T i to → Paired (A .kinds) (A .closes) i to
   agrees-paired ends = done
-  agrees-paired (leaves l h s p) = content l (h .isContent) (agrees-paired p)
+  agrees-paired (leaves l h s g p) = content l (h .isContent) (agrees-paired p)
   agrees-paired (brackets c k w l m y s p q) = bracket c k w l m y (agrees-paired p) (agrees-paired q)
   agrees-paired (blocks c e k w v l m n y z f s d p q) = block c e k w v l m n y z f (agrees-paired p) (agrees-paired q)
 
@@ -40,8 +40,9 @@ module _ (A : Arrays) (text : Bytes) where
     pub isOpening : getD (A .kinds) i 0 ≡ 4
     pub closes : getD (A .closes) i 0 ≡ close
     pub before : i < close
+    pub isClosing : getD (A .kinds) close 0 ≡ 5
     pub inside : ts ≡ tokens A text (suc i) close
-    pub agrees : Agrees A text T (suc i) close
+    pub agrees : Agrees A text L T (suc i) close
 
   pub record ScopeFits (T : Table) (i : ℕ) (ds ts : List Token) : Type 0 where
     pub middle : ℕ
@@ -51,13 +52,15 @@ module _ (A : Arrays) (text : Bytes) where
     pub closes : getD (A .closes) middle 0 ≡ close
     pub before : i < middle
     pub between : middle < close
+    pub isIn : getD (A .kinds) middle 0 ≡ 8
+    pub isEnd : getD (A .kinds) close 0 ≡ 9
     pub declared : ds ≡ tokens A text (suc i) middle
     pub complete : allTokens (declarations ds) ≡ ds
     pub inside : ts ≡ tokens A text (suc middle) close
-    pub agrees : Agrees A text (bodyTable T ds) (suc middle) close
+    pub agrees : Agrees A text L (bodyTable T ds) (suc middle) close
 
   abbrev pub ItemFits : Table → ℕ → Item → Type 0
-  ItemFits T i (single t) = Stands A text i × (t ≡ token A text i)
+  ItemFits T i (single t) = Stands A text i × (t ≡ token A text i) × (getD L i 0 ≡ nameNumber T (token A text i))
   ItemFits T i (pair ts) = PairFits T i ts
   ItemFits T i (scope ds ts) = ScopeFits T i ds ts
 
@@ -75,17 +78,17 @@ module _ (A : Arrays) (text : Bytes) where
   fit-next T i j to x xs s h e f =
       ((s, h, rw e (f .0)), omega (arith, e, f .1, length-append (itemTokens x) (allItemTokens xs)))
 
-  fitting : {T : Table} {i to : ℕ} → Agrees A text T i to → Fitting T i to (items (tokens A text i to))
+  fitting : {T : Table} {i to : ℕ} → Agrees A text L T i to → Fitting T i to (items (tokens A text i to))
   unfolding allItemTokens itemTokens
   fitting (ends {to = to}) = rw (items-done text (A .kinds) (A .starts) (A .sizes) to) (tt, omega arith)
-  fitting (leaves {T} {i} {to} l h s p) =
+  fitting (leaves {T} {i} {to} l h s g p) =
       rw (items-content text (A .kinds) (A .starts) (A .sizes) i to l (h .isContent))
-      (fit-next T i (suc i) to (single (token A text i)) (items (tokens A text (suc i) to)) s (h, refl) (omega arith) (fitting p))
+      (fit-next T i (suc i) to (single (token A text i)) (items (tokens A text (suc i) to)) s (h, refl, g) (omega arith) (fitting p))
   fitting (brackets {T} {i} {to} c k w l m y s p q) =
       let ts = tokens A text (suc i) c in
       rw (items-bracket text (A .kinds) (A .starts) (A .sizes) i c to k l m y (agrees-paired p))
       (fit-next T i (suc c) to (pair ts) (items (tokens A text (suc c) to)) s
-      (record { close = c; isOpening = k; closes = w; before = l; inside = refl; agrees = p })
+      (record { close = c; isOpening = k; closes = w; before = l; isClosing = y; inside = refl; agrees = p })
       (behind-pair text (A .kinds) (A .starts) (A .sizes) i c l)
       (fitting q))
   fitting (blocks {T} {i} {to} c e k w v l m n y z f s d p q) =
@@ -101,6 +104,8 @@ module _ (A : Arrays) (text : Bytes) where
         closes = v;
         before = l;
         between = m;
+        isIn = y;
+        isEnd = z;
         declared = refl;
         complete = d;
         inside = refl;
@@ -109,13 +114,13 @@ module _ (A : Arrays) (text : Bytes) where
       (behind-scope text (A .kinds) (A .starts) (A .sizes) i c e l m)
       (fitting q))
 
-  pub agrees-fit : {T : Table} {i to : ℕ} → Agrees A text T i to → AllFit T i (items (tokens A text i to))
+  pub agrees-fit : {T : Table} {i to : ℕ} → Agrees A text L T i to → AllFit T i (items (tokens A text i to))
   agrees-fit h = fitting h .0
 
-  pub agrees-length : {T : Table} {i to : ℕ} → Agrees A text T i to → i + length (allItemTokens (items (tokens A text i to))) ≡ to
+  pub agrees-length : {T : Table} {i to : ℕ} → Agrees A text L T i to → i + length (allItemTokens (items (tokens A text i to))) ≡ to
   agrees-length h = fitting h .1
 
-  -- The words of a leaf, and the length of an operator.
+  -- The words of a leaf, and the length and kind of an operator.
   cut-length : (at size : ℕ) → at + size ≤ length text → length (take size (drop at text)) ≡ size
   cut-length at size l = omega (arith, length-take size (drop at text), length-drop at text)
 
@@ -165,6 +170,13 @@ module _ (A : Arrays) (text : Bytes) where
       (λ e. let z : number (bare i) ≡ symbol m = sym (token-of i 2 e) ∙ t in cc)
       (λ e. let z : quoted (unquoted i) ≡ symbol m = sym (token-of i 3 e) ∙ t in cc)
 
+  pub symbol-kind : (i : ℕ) (m : Bytes) → Stands A text i → token A text i ≡ symbol m → getD (A .kinds) i 0 ≡ 1
+  unfolding tokenOf charactersIn
+  symbol-kind i m h t =
+      by-content i h (λ e. e)
+      (λ e. let z : number (bare i) ≡ symbol m = sym (token-of i 2 e) ∙ t in cc)
+      (λ e. let z : quoted (unquoted i) ≡ symbol m = sym (token-of i 3 e) ∙ t in cc)
+
   -- Every item of such a span is an operator or an operand.
   token-known : (T : Table) (i : ℕ) → Stands A text i → Known T (single (token A text i))
   unfolding operatorAt symbolAt isOperand isOperandToken inForce tokenOf charactersIn
@@ -185,5 +197,5 @@ module _ (A : Arrays) (text : Bytes) where
   fit-known T (pair ts ∷ xs) i h = (λ n. refl, fit-known T xs (i + length (itemTokens (pair ts))) (h .2))
   fit-known T (scope ds ts ∷ xs) i h = (λ n. refl, fit-known T xs (i + length (itemTokens (scope ds ts))) (h .2))
 
-  pub agrees-known : {T : Table} {i to : ℕ} → Agrees A text T i to → AllKnown T (items (tokens A text i to))
+  pub agrees-known : {T : Table} {i to : ℕ} → Agrees A text L T i to → AllKnown T (items (tokens A text i to))
   agrees-known {T} {i} {to} h = fit-known T (items (tokens A text i to)) i (agrees-fit h)

@@ -60,10 +60,21 @@ joined-some T (some l) m (some r) s e = go ((present l || present r) && admitsBo
     go true f = (l, r, refl, refl, cc)
     go false f = let z : _≡_ {A = ℕ} 0 1 = cc in absurd (omega arith)
 
-span-some : (T : Table) (xs : List Item) (s : SpanTree) → treeOfSpan T xs ≡ some s → (m : ℕ) × (partTree m T xs ≡ some s)
+pub span-some : (T : Table) (xs : List Item) (s : SpanTree) → treeOfSpan T xs ≡ some s → (m : ℕ) × (partTree m T xs ≡ some s)
 unfolding treeOfSpan
 span-some T [] s e = let z : _≡_ {A = ℕ} 0 1 = cc in absurd (omega arith)
 span-some T (x ∷ xs) s e = (suc (length (x ∷ xs)), e)
+
+-- What the tree of tokens was hung from.
+pub tree-found : (k : ℕ) (T : Table) (ts : List Token) (t : Tree) → treeIn (suc k) T ts ≡ some t
+    → (s : SpanTree) × (treeOfSpan T (items ts) ≡ some s) × (hang (treeIn k) T s ≡ some t)
+unfolding treeIn hangFound
+tree-found k T ts t e = go (treeOfSpan T (items ts)) refl e
+  where
+    go : (o : Option SpanTree) → treeOfSpan T (items ts) ≡ o → hangFound (treeIn k) T o ≡ some t
+        → (s : SpanTree) × (treeOfSpan T (items ts) ≡ some s) × (hang (treeIn k) T s ≡ some t)
+    go none f g = let z : none ≡ some t = g in let y : _≡_ {A = ℕ} 0 1 = cc in absurd (omega arith)
+    go (some s) f g = (s, f, g)
 
 -- An operand that is there, and one that is not.
 hang-present : (inner : Table → List Token → Option Tree) (T : Table) (s : SpanTree) (t : Tree) → hang inner T s ≡ some t
@@ -74,6 +85,18 @@ hang-present inner T (operand (single t₀)) t e = let h : t ≡ leaf t₀ = cc 
 hang-present inner T (operand (pair ts)) t e = rw (underBracket-some (inner T ts) t e .2)
 hang-present inner T (operand (scope ds ts)) t e = rw (underBlock-some (declarations ds) (inner (bodyTable T ds) ts) t e .2)
 hang-present inner T (apply l m r) t e = rw (underOperator-some m (hang inner T l) (hang inner T r) t e .4)
+
+-- The tree that is hung has the root of the span's tree.
+pub hang-root : (inner : Table → List Token → Option Tree) (T : Table) (s : SpanTree) (t : Tree) → hang inner T s ≡ some t
+    → root T (spanTree t) ≡ root T s
+unfolding hang hangItem root spanTree fixity
+hang-root inner T missing t e = let h : t ≡ nothing = cc in rw h
+hang-root inner T (operand (single t₀)) t e = let h : t ≡ leaf t₀ = cc in rw h
+hang-root inner T (operand (pair ts)) t e = rw (underBracket-some (inner T ts) t e .2)
+hang-root inner T (operand (scope ds ts)) t e = rw (underBlock-some (declarations ds) (inner (bodyTable T ds) ts) t e .2)
+hang-root inner T (apply l m r) t e =
+    let h = underOperator-some m (hang inner T l) (hang inner T r) t e in
+    rw (h .4) (ap₂ (λ a b. role T m (fixityBy a b)) (hang-present inner T l (h .0) (h .2)) (hang-present inner T r (h .1) (h .3)))
 
 count-absent : (t : Tree) → present (spanTree t) ≡ false → count t ≡ 0
 unfolding present spanTree count
@@ -120,27 +143,27 @@ part-present : (inner : Table → List Token → Option Tree) (m : ℕ) (T : Tab
 part-present inner m T xs s t e h =
     sym (hang-present inner T s t h ∙ present-yield s ∙ ap (λ js. not (isEmpty js)) (partTree-sound m T xs s e .0))
 
-module _ (A : Arrays) (text : Bytes) where
+module _ (A : Arrays) (text : Bytes) (L : List ℕ) where
   abbrev start : ℕ → ℕ
   start j = getD (A .starts) j 0
 
-  fit-left : (T : Table) (xs ys : List Item) (i : ℕ) → AllFit A text T i (xs ++ ys) → AllFit A text T i xs
+  pub fit-left : (T : Table) (xs ys : List Item) (i : ℕ) → AllFit A text L T i (xs ++ ys) → AllFit A text L T i xs
   fit-left T [] ys i h = tt
   fit-left T (x ∷ xs) ys i h = (h .0, h .1, fit-left T xs ys (i + length (itemTokens x)) (h .2))
 
-  fit-right : (T : Table) (xs ys : List Item) (i : ℕ) → AllFit A text T i (xs ++ ys) → AllFit A text T (i + length (allItemTokens xs)) ys
+  pub fit-right : (T : Table) (xs ys : List Item) (i : ℕ) → AllFit A text L T i (xs ++ ys) → AllFit A text L T (i + length (allItemTokens xs)) ys
   unfolding allItemTokens
   fit-right T [] ys i h = let e : i + 0 ≡ i = omega arith in rw e h
   fit-right T (x ∷ xs) ys i h =
       let e : i + length (itemTokens x ++ allItemTokens xs) ≡ i + length (itemTokens x) + length (allItemTokens xs) = omega (arith, length-append (itemTokens x) (allItemTokens xs)) in
       rw e (fit-right T xs ys (i + length (itemTokens x)) (h .2))
 
-  fit-slots : (T : Table) (xs : List Item) (i : ℕ) → AllFit A text T i xs → map (slotOfToken A) (numbersFrom i xs) ≡ map (slotOf T) xs
+  fit-slots : (T : Table) (xs : List Item) (i : ℕ) → AllFit A text L T i xs → map (slotOfToken A) (numbersFrom i xs) ≡ map (slotOf T) xs
   unfolding numbersFrom
   fit-slots T [] i h = refl
   fit-slots T (x ∷ xs) i h = ap₂ _∷_ (h .0) (fit-slots T xs (i + length (itemTokens x)) (h .2))
 
-  fit-root : (T : Table) (xs : List Item) (i : ℕ) → AllFit A text T i xs
+  fit-root : (T : Table) (xs : List Item) (i : ℕ) → AllFit A text L T i xs
       → rootSlot 0 (length (numbersFrom i xs)) (map (slotOfToken A) (numbersFrom i xs)) ≡ rootSlot 0 (length xs) (map (slotOf T) xs)
   fit-root T xs i h = ap₂ (λ n ss. rootSlot 0 n ss) (numbers-length xs i) (fit-slots T xs i h)
 
@@ -168,7 +191,7 @@ module _ (A : Arrays) (text : Bytes) where
 
   abbrev Parts : ℕ → Type 0
   Parts k =
-      (d m : ℕ) (T : Table) (xs : List Item) (i : ℕ) (s : SpanTree) (t : Tree) → length (allItemTokens xs) < k → AllFit A text T i xs
+      (d m : ℕ) (T : Table) (xs : List Item) (i : ℕ) (s : SpanTree) (t : Tree) → length (allItemTokens xs) < k → AllFit A text L T i xs
       → partTree m T xs ≡ some s → hang (treeIn d) T s ≡ some t → Same k xs i t
 
   -- So of a span.
@@ -177,29 +200,25 @@ module _ (A : Arrays) (text : Bytes) where
       (length (flat t) ≡ to - from)
       × ((base : ℕ) → rangeIn A k (itemNumbers (A .kinds) (A .closes) from to) base ≡ words start t from base)
 
-  span-same : (k : ℕ) → Parts k → (d : ℕ) (T : Table) (from to : ℕ) (t : Tree) → Agrees A text T from to → to - from < k
+  span-same : (k : ℕ) → Parts k → (d : ℕ) (T : Table) (from to : ℕ) (t : Tree) → Agrees A text L T from to → to - from < k
       → treeIn d T (tokens A text from to) ≡ some t → SameSpan k from to t
-  unfolding treeIn hangFound
+  unfolding treeIn
   span-same k f zero T from to t h l e = let z : _≡_ {A = ℕ} 0 1 = cc in absurd (omega arith)
-  span-same k f (suc d) T from to t h l e = go (treeOfSpan T (items (tokens A text from to))) refl e
-    where
-      go : (o : Option SpanTree) → treeOfSpan T (items (tokens A text from to)) ≡ o → hangFound (treeIn d) T o ≡ some t
-          → SameSpan k from to t
-      go none g q = let z : none ≡ some t = q in let y : _≡_ {A = ℕ} 0 1 = cc in absurd (omega arith)
-      go (some s) g q =
-          let xs = items (tokens A text from to) in
-          let p = span-some T xs s g in
-          let n = agrees-length A text h in
-          let w = f d (p .0) T xs from s t (omega (arith, n)) (agrees-fit A text h) (p .1) q in
-          let ns = numbers-items text (A .kinds) (A .starts) (A .sizes) (agrees-paired A text h) in
-          (omega (arith, w .0, n), λ base. ap (λ ms. rangeIn A k ms base) ns ∙ w .1 base)
+  span-same k f (suc d) T from to t h l e =
+      let xs = items (tokens A text from to) in
+      let o = tree-found d T (tokens A text from to) t e in
+      let p = span-some T xs (o .0) (o .1) in
+      let n = agrees-length A text L h in
+      let w = f d (p .0) T xs from (o .0) t (omega (arith, n)) (agrees-fit A text L h) (p .1) (o .2) in
+      let ns = numbers-items text (A .kinds) (A .starts) (A .sizes) (agrees-paired A text L h) in
+      (omega (arith, w .0, n), λ base. ap (λ ms. rangeIn A k ms base) ns ∙ w .1 base)
 
   -- An item that is no operator.
   abbrev SameItem : ℕ → Item → ℕ → Tree → Type 0
   SameItem k x i t =
       (length (flat t) ≡ length (itemTokens x)) × ((base : ℕ) → itemWords A (rangeIn A k) i base ≡ words start t i base)
 
-  pair-same : (k : ℕ) → Parts k → (d : ℕ) (T : Table) (ts : List Token) (i : ℕ) (u : Tree) → PairFits A text T i ts
+  pair-same : (k : ℕ) → Parts k → (d : ℕ) (T : Table) (ts : List Token) (i : ℕ) (u : Tree) → PairFits A text L T i ts
       → length (itemTokens (pair ts)) ≤ k → treeIn d T ts ≡ some u → SameItem k (pair ts) i (bracket u)
   unfolding itemTokens flat words bracketNode
   pair-same k f d T ts i u h l e =
@@ -209,7 +228,7 @@ module _ (A : Arrays) (text : Bytes) where
         λ base. item-bracket A (rangeIn A k) i base (h .isOpening) ∙ rw (h .closes, w .1 base, words-count u (suc i) base),
       )
 
-  scope-same : (k : ℕ) → Parts k → (d : ℕ) (T : Table) (ds ts : List Token) (i : ℕ) (u : Tree) → ScopeFits A text T i ds ts
+  scope-same : (k : ℕ) → Parts k → (d : ℕ) (T : Table) (ds ts : List Token) (i : ℕ) (u : Tree) → ScopeFits A text L T i ds ts
       → length (itemTokens (scope ds ts)) ≤ k → treeIn d (bodyTable T ds) ts ≡ some u → SameItem k (scope ds ts) i (block (declarations ds) u)
   unfolding itemTokens flat words blockNode
   scope-same k f d T ds ts i u h l e =
@@ -233,12 +252,12 @@ module _ (A : Arrays) (text : Bytes) where
             ∙ rw (h .opens, h .closes, w .1 base, words-count u (suc (h .middle)) base, h .complete, c),
       )
 
-  item-same : (k : ℕ) → Parts k → (d : ℕ) (T : Table) (x : Item) (i : ℕ) (t : Tree) → ItemFits A text T i x
+  item-same : (k : ℕ) → Parts k → (d : ℕ) (T : Table) (x : Item) (i : ℕ) (t : Tree) → ItemFits A text L T i x
       → length (itemTokens x) ≤ k → hangItem (treeIn d) T x ≡ some t → SameItem k x i t
   unfolding hangItem
   item-same k f d T (single t₀) i t h l e =
       let q : t ≡ leaf (token A text i) = let z : t ≡ leaf t₀ = cc in z ∙ ap leaf (h .1) in
-      rw q (leaf-size t₀ (token A text i), λ base. item-token A (rangeIn A k) i base (λ g. omega (arith, h .0 .isContent .1)) (λ g. omega (arith, h .0 .isContent .1)) ∙ leaf-words A text i base (h .0))
+      rw q (leaf-size t₀ (token A text i), λ base. item-token A (rangeIn A k) i base (λ g. omega (arith, h .0 .isContent .1)) (λ g. omega (arith, h .0 .isContent .1)) ∙ leaf-words A text L i base (h .0))
   item-same k f d T (pair ts) i t h l e =
       let q = underBracket-some (treeIn d T ts) t e in
       rw (q .2) (pair-same k f d T ts i (q .0) h l (q .1))
@@ -263,7 +282,7 @@ module _ (A : Arrays) (text : Bytes) where
   -- An operator with its operands.
   operator-same :
       (k : ℕ) → Parts k → (d m : ℕ) (T : Table) (before after : List Item) (op : Bytes) (i : ℕ) (l r : SpanTree) (t u : Tree)
-      → length (allItemTokens (before ++ single (symbol op) ∷ after)) ≤ k → AllFit A text T i (before ++ single (symbol op) ∷ after)
+      → length (allItemTokens (before ++ single (symbol op) ∷ after)) ≤ k → AllFit A text L T i (before ++ single (symbol op) ∷ after)
       → partTree m T before ≡ some l → partTree m T after ≡ some r → hang (treeIn d) T l ≡ some t → hang (treeIn d) T r ≡ some u
       → (length (flat (node t op u)) ≡ length (allItemTokens (before ++ single (symbol op) ∷ after)))
       × ((base : ℕ) → operatorWords A (rangeIn A k) (numbersFrom i (before ++ single (symbol op) ∷ after)) (length before) base
@@ -275,12 +294,12 @@ module _ (A : Arrays) (text : Bytes) where
       ap length (append-tokens before (single (symbol op) ∷ after)) ∙ length-append (allItemTokens before) (symbol op ∷ allItemTokens after) in
       let o : j + 1 ≡ suc j = omega arith in
       let here = fit-right T before (single (symbol op) ∷ after) i fit in
-      let behind : AllFit A text T (suc j) after = rw o at (here .2) in
+      let behind : AllFit A text L T (suc j) after = rw o at (here .2) in
       let v = f d m T before i l t (omega (arith, n)) (fit-left T before (single (symbol op) ∷ after) i fit) e p in
       let w = f d m T after (suc j) r u (omega (arith, n)) behind g q in
       let ns : numbersFrom i (before ++ single (symbol op) ∷ after) ≡ numbersFrom i before ++ j ∷ numbersFrom (suc j) after =
       numbers-append before (single (symbol op) ∷ after) i ∙ rw o in
-      let z = symbol-length A text j op (here .1 .0) (sym (here .1 .1)) in
+      let z = symbol-length A text L j op (here .1 .0) (sym (here .1 .1)) in
       let lt : not (eqb (length before) 0) ≡ present (spanTree t) = ap not (length-empty before) ∙ part-present (treeIn d) m T before l t e p in
       let rt : not (isEmpty (numbersFrom (suc j) after)) ≡ present (spanTree u) = ap not (numbers-empty after (suc j)) ∙ part-present (treeIn d) m T after r u g q in (
         omega (arith, n, length-append (flat t) (symbol op ∷ flat u), v .0, w .0),
@@ -294,7 +313,7 @@ module _ (A : Arrays) (text : Bytes) where
 
   -- Where the search finds no root.
   lone-same : (k : ℕ) → Parts k → (d : ℕ) (T : Table) (x : Item) (xs : List Item) (i : ℕ) (s : SpanTree) (t : Tree)
-      → length (allItemTokens (x ∷ xs)) ≤ k → AllFit A text T i (x ∷ xs) → rootOf T (x ∷ xs) ≡ none → lone T x xs ≡ some s
+      → length (allItemTokens (x ∷ xs)) ≤ k → AllFit A text L T i (x ∷ xs) → rootOf T (x ∷ xs) ≡ none → lone T x xs ≡ some s
       → hang (treeIn d) T s ≡ some t → Same (suc k) (x ∷ xs) i t
   unfolding hang numbersFrom allItemTokens
   lone-same k f d T x xs i s t fuel fit e g h =
@@ -308,7 +327,7 @@ module _ (A : Arrays) (text : Bytes) where
 
   -- Where it finds one.
   joined-same : (k : ℕ) → Parts k → (d m : ℕ) (T : Table) (x : Item) (xs : List Item) (i : ℕ) (s : SpanTree) (t : Tree) (c : Split)
-      → length (allItemTokens (x ∷ xs)) ≤ k → AllFit A text T i (x ∷ xs) → rootOf T (x ∷ xs) ≡ some c → yield s ≡ x ∷ xs
+      → length (allItemTokens (x ∷ xs)) ≤ k → AllFit A text L T i (x ∷ xs) → rootOf T (x ∷ xs) ≡ some c → yield s ≡ x ∷ xs
       → joined T (partTree m T (c .before)) (c .operator) (partTree m T (c .after)) ≡ some s
       → hang (treeIn d) T s ≡ some t → Same (suc k) (x ∷ xs) i t
   unfolding hang numbersFrom yield
@@ -323,7 +342,7 @@ module _ (A : Arrays) (text : Bytes) where
       sym y ∙ ap yield (o .4) ∙ ap₂ (λ a b. a ++ single (symbol op) ∷ b) yl yr in
       let w =
       operator-same k f d m T (c .before) (c .after) op i (o .0) (o .1) (v .0) (v .1)
-      (rw splits at fuel) (subst (AllFit A text T i) splits fit) (o .2) (o .3) (v .2) (v .3) in
+      (rw splits at fuel) (subst (AllFit A text L T i) splits fit) (o .2) (o .3) (v .2) (v .3) in
       let at = fit-root T (x ∷ xs) i fit ∙ root-slots-some T (x ∷ xs) c e in
       let n = ap length splits ∙ length-append (c .before) (single (symbol op) ∷ c .after) in
       let l : length (c .before) < length (numbersFrom i (x ∷ xs)) = omega (arith, n, numbers-length (x ∷ xs) i) in (
@@ -335,7 +354,7 @@ module _ (A : Arrays) (text : Bytes) where
       )
 
   more-same : (k : ℕ) → Parts k → (d m : ℕ) (T : Table) (x : Item) (xs : List Item) (i : ℕ) (s : SpanTree) (t : Tree)
-      → length (allItemTokens (x ∷ xs)) ≤ k → AllFit A text T i (x ∷ xs) → partTree (suc m) T (x ∷ xs) ≡ some s
+      → length (allItemTokens (x ∷ xs)) ≤ k → AllFit A text L T i (x ∷ xs) → partTree (suc m) T (x ∷ xs) ≡ some s
       → hang (treeIn d) T s ≡ some t → Same (suc k) (x ∷ xs) i t
   unfolding partTree
   more-same k f d m T x xs i s t fuel fit e h = go (rootOf T (x ∷ xs)) refl
@@ -355,7 +374,7 @@ module _ (A : Arrays) (text : Bytes) where
 
   -- The words of a part of a span.
   pub part-words : (k d m : ℕ) (T : Table) (xs : List Item) (i : ℕ) (s : SpanTree) (t : Tree) → length (allItemTokens xs) < k
-      → AllFit A text T i xs → partTree m T xs ≡ some s → hang (treeIn d) T s ≡ some t
+      → AllFit A text L T i xs → partTree m T xs ≡ some s → hang (treeIn d) T s ≡ some t
       → (length (flat t) ≡ length (allItemTokens xs))
       × ((base : ℕ) → rangeIn A k (numbersFrom i xs) base ≡ words (λ j. getD (A .starts) j 0) t i base)
   unfolding partTree
@@ -365,23 +384,23 @@ module _ (A : Arrays) (text : Bytes) where
   part-words (suc k) d (suc m) T (x ∷ xs) i s t l fit e h = more-same k (part-words k) d m T x xs i s t (omega arith) fit e h
 
   -- The slots of the items of a span are those of their tokens.
-  pub agrees-slots : {T : Table} {from to : ℕ} → Agrees A text T from to
+  pub agrees-slots : {T : Table} {from to : ℕ} → Agrees A text L T from to
       → map (slotOfToken A) (itemNumbers (A .kinds) (A .closes) from to) ≡ map (slotOf T) (items (tokens A text from to))
   agrees-slots {T} {from} {to} h =
-      ap (map (slotOfToken A)) (numbers-items text (A .kinds) (A .starts) (A .sizes) (agrees-paired A text h))
-      ∙ fit-slots T (items (tokens A text from to)) from (agrees-fit A text h)
+      ap (map (slotOfToken A)) (numbers-items text (A .kinds) (A .starts) (A .sizes) (agrees-paired A text L h))
+      ∙ fit-slots T (items (tokens A text from to)) from (agrees-fit A text L h)
 
   -- The words of a span whose tree exists are those of the tree; the tree has the span's tokens.
-  pub span-words : (k : ℕ) (T : Table) (from to base : ℕ) (t : Tree) → Agrees A text T from to
+  pub span-words : (k : ℕ) (T : Table) (from to base : ℕ) (t : Tree) → Agrees A text L T from to
       → treeIn k T (tokens A text from to) ≡ some t → spanWords A from to base ≡ words (λ j. getD (A .starts) j 0) t from base
   unfolding spanWords
   span-words k T from to base t h e =
       span-same (suc (to - from)) (part-words (suc (to - from))) k T from to t h (omega arith) e .1 base
 
-  pub span-flat : (k : ℕ) (T : Table) (from to : ℕ) (t : Tree) → Agrees A text T from to
+  pub span-flat : (k : ℕ) (T : Table) (from to : ℕ) (t : Tree) → Agrees A text L T from to
       → treeIn k T (tokens A text from to) ≡ some t → length (flat t) ≡ to - from
   span-flat k T from to t h e = span-same (suc (to - from)) (part-words (suc (to - from))) k T from to t h (omega arith) e .0
 
-  pub span-count : (k : ℕ) (T : Table) (from to base : ℕ) (t : Tree) → Agrees A text T from to
+  pub span-count : (k : ℕ) (T : Table) (from to base : ℕ) (t : Tree) → Agrees A text L T from to
       → treeIn k T (tokens A text from to) ≡ some t → length (spanWords A from to base) ≡ 5 * count t
   span-count k T from to base t h e = ap length (span-words k T from to base t h e) ∙ words-length start t from base

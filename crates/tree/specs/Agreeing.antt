@@ -9,7 +9,7 @@ use Rattle.grammar.specs.Token.{Token}
 use Rattle.grammar.specs.Operator.{Table}
 use Rattle.grammar.specs.Declaration.{declarations, allTokens}
 use Rattle.grammar.specs.Span.{single, pair, scope}
-use Rattle.grammar.specs.Coded.{tokenAt, tokensFrom}
+use Rattle.grammar.specs.Coded.{tokenAt, tokensFrom, nameNumber}
 use Rattle.grammar.specs.Blocks.{bodyTable}
 use Rattle.nesting.specs.Paired.{IsContentKind, IsQuietKind}
 use Rattle.search.specs.Slots.{slotOf}
@@ -29,19 +29,21 @@ pub record Stands (A : Arrays) (text : Bytes) (i : ℕ) : Type 0 where
   pub quotes : getD (A .kinds) i 0 ≡ 3 → 2 ≤ getD (A .sizes) i 0
 
 -- The tokens from number `i` to number `to` are paired, and the roles of the first token of each item are those that the item has under
--- the operators in force; so within bracket pairs, and within blocks under the operators of their bodies.
-pub data Agrees (A : Arrays) (text : Bytes) : Table → ℕ → ℕ → Type 0 where
-  ends : {T : Table} {to : ℕ} → Agrees A text T to to
+-- the operators in force; so within bracket pairs, and within blocks under the operators of their bodies. `L` says of each quoted name
+-- whether its characters are an operator in force.
+pub data Agrees (A : Arrays) (text : Bytes) (L : List ℕ) : Table → ℕ → ℕ → Type 0 where
+  ends : {T : Table} {to : ℕ} → Agrees A text L T to to
   leaves : {T : Table} {i to : ℕ} → i < to → Stands A text i → slotOfToken A i ≡ slotOf T (single (token A text i))
-      → Agrees A text T (suc i) to → Agrees A text T i to
+      → getD L i 0 ≡ nameNumber T (token A text i)
+      → Agrees A text L T (suc i) to → Agrees A text L T i to
   brackets :
       {T : Table} {i to : ℕ} (c : ℕ) → getD (A .kinds) i 0 ≡ 4 → getD (A .closes) i 0 ≡ c → i < c → c < to → getD (A .kinds) c 0 ≡ 5
-      → slotOfToken A i ≡ slotOf T (pair (tokens A text (suc i) c)) → Agrees A text T (suc i) c → Agrees A text T (suc c) to
-      → Agrees A text T i to
+      → slotOfToken A i ≡ slotOf T (pair (tokens A text (suc i) c)) → Agrees A text L T (suc i) c → Agrees A text L T (suc c) to
+      → Agrees A text L T i to
   blocks :
       {T : Table} {i to : ℕ} (c e : ℕ) → getD (A .kinds) i 0 ≡ 7 → getD (A .closes) i 0 ≡ c → getD (A .closes) c 0 ≡ e → i < c → c < e
       → e < to → getD (A .kinds) c 0 ≡ 8 → getD (A .kinds) e 0 ≡ 9
       → ((j : ℕ) → i < j → j < c → IsQuietKind (getD (A .kinds) j 0))
       → slotOfToken A i ≡ slotOf T (scope (tokens A text (suc i) c) (tokens A text (suc c) e))
       → allTokens (declarations (tokens A text (suc i) c)) ≡ tokens A text (suc i) c
-      → Agrees A text (bodyTable T (tokens A text (suc i) c)) (suc c) e → Agrees A text T (suc e) to → Agrees A text T i to
+      → Agrees A text L (bodyTable T (tokens A text (suc i) c)) (suc c) e → Agrees A text L T (suc e) to → Agrees A text L T i to

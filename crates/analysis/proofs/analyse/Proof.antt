@@ -10,7 +10,7 @@ refused-requires c κs = search needs
 
 returns : tie.Need-returns
 returns c =
-    too-long _ _ (c .refused .result) (c .before .if1 .taken) (c .refused .ensures)
+    too-long _ _ _ _ (c .refused .result) (c .before .if1 .taken) (c .refused .ensures)
 
 whole-bytes-requires : tie.Need-whole-bytes-requires
 whole-bytes-requires c κs = search needs
@@ -33,7 +33,7 @@ refused-requires-2 c κs = search needs
 returns-2 : tie.Need-returns-2
 returns-2 c =
     let d = c .before .before .before .before in
-    not-scanned _ (d .before .before .before .before .before .before .before .before .before .before .if1 .left) _ (c .refused2 .result) _ _ (sym (d .scan .ensures .answer) ∙ c .before .before .scanned .given .1)
+    not-scanned _ (d .before .before .before .before .before .before .before .before .before .before .if1 .left) _ _ _ (c .refused2 .result) _ _ (sym (d .scan .ensures .answer) ∙ c .before .before .scanned .given .1)
     (c .refused2 .ensures)
 
 enum-known-scanned-2 : tie.Need-enum-known-scanned-2
@@ -41,11 +41,11 @@ enum-known-scanned-2 c = search needs
 
 analyse-tokens-requires : tie.Need-analyse-tokens-requires
 analyse-tokens-requires c κs =
-    let d = c .before .before .before .before .before .before .before .before .before .before in
+    let d = c .before .before .before .before .before .before .before .before .before .before .before .before in
     let z = d .before .before .before .before in
     let s = z .before .before in
     let k = s .before .before in
-    tokenized _ (k .before .before .if1 .left) _ _ _ _ _ _ (d .scan .result) _ (d .scan .ensures) (c .before .before .before .before .before .before .before .before .scanned2 .given .1)
+    tokenized _ (k .before .before .if1 .left) _ _ _ _ _ _ (d .scan .result) _ (d .scan .ensures) (c .before .before .before .before .before .before .before .before .before .before .scanned2 .given .1)
     (k .whole-bytes .ensures) (s .whole-words .ensures) (z .whole-bytes2 .ensures)
 
 returns-3 : tie.Need-returns-3

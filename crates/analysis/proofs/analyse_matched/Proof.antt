@@ -14,17 +14,20 @@ whole-words-requires-2 c κs = search needs
 whole-words-requires-3 : tie.Need-whole-words-requires-3
 whole-words-requires-3 c κs = search needs
 
+whole-bytes-requires : tie.Need-whole-bytes-requires
+whole-bytes-requires c κs = search needs
+
 new-requires : tie.Need-new-requires
 new-requires c κs = search needs
 
 resolve-requires : tie.Need-resolve-requires
 resolve-requires c κs =
     let d = c .before .before .before in
-    resolvable (d .before .before .before .before .before .before .before .before .pre) (d .new .result) (d .new .ensures)
+    resolvable (d .before .before .before .before .before .before .before .before .before .before .before .pre) (d .before .new .result) (d .before .new .ensures)
 
 offset-of-requires : tie.Need-offset-of-requires
 offset-of-requires c κs =
-    few-tokens (c .before .before .before .before .before .before .before .before .before .before .before .before .before .before .pre .scanned)
+    few-tokens (c .before .before .before .before .before .before .before .before .before .before .before .before .before .before .before .before .before .pre .scanned)
 
 refused-requires : tie.Need-refused-requires
 refused-requires c κs = search needs
@@ -33,19 +36,23 @@ returns : tie.Need-returns
 returns c =
     let d = c .before .before .before .before in
     let e = d .before .before .before .before in
-    not-resolved (e .before .before .before .before .before .before .before .before .pre) (e .new .result) (e .new .ensures) _ _ _ _ _ _ (d .resolve .result) (d .resolve .ensures) _ (c .refused .result)
+    not-resolved (e .before .before .before .before .before .before .before .before .before .before .before .pre) (e .before .new .result) (e .before .new .ensures) _ _ _ _ _ _ _ _ (d .resolve .result) (d .resolve .ensures) _ _ _ (c .refused .result)
     (c .before .before .if1 .taken) (c .refused .ensures .0, c .refused .ensures .1 ∙ c .before .offset-of .ensures)
 
 analyse-spans-requires : tie.Need-analyse-spans-requires
 analyse-spans-requires c κs =
     let d = c .before .before .before .before .before in
-    let e = d .before .before .before .before in
-    let w = e .before in
-    resolved (e .before .before .before .before .before .before .before .before .pre) (e .new .result) (e .new .ensures) _ _ _ _ _ _ (d .resolve .result) (d .resolve .ensures)
-    (c .before .before .before .if1 .left) (w .before .before .before .before .whole-words .ensures) (w .before .before .whole-words2 .ensures) (w .whole-words3 .ensures)
+    d .before .before .before .before .before .before .before .before .before .before .before .before .before .before .before .before .pre
 
 returns-2 : tie.Need-returns-2
-returns-2 c = search needs
+returns-2 c =
+    let d = c .before .before .before .before .before .before .before in
+    let e = d .before .before .before .before .before in
+    let w = e .before in
+    c .analyse-spans .ensures _
+    (resolved (e .before .before .before .before .before .before .before .before .before .before .pre) (e .new .result) (e .new .ensures) _ _ _ _ _ _ _ _ (d .resolve .result) (d .resolve .ensures)
+    (c .before .before .before .before .before .if1 .left) (w .before .before .before .before .before .before .whole-words .ensures)
+    (w .before .before .before .before .whole-words2 .ensures) (w .before .before .whole-words3 .ensures) (w .whole-bytes .ensures))
 
 pub analyse-matched-spec : {M : Type 1} → statement M
 analyse-matched-spec =
@@ -54,6 +61,7 @@ analyse-matched-spec =
     whole-words-requires
     whole-words-requires-2
     whole-words-requires-3
+    whole-bytes-requires
     new-requires
     resolve-requires
     offset-of-requires

@@ -25,7 +25,7 @@ refused-requires c κs = search needs
 returns : tie.Need-returns
 returns c =
     let d = c .before .before .before .before .before in
-    not-matched (d .before .before .before .before .before .pre) _ _ (d .pair-up .result) _ (c .refused .result) _ _ (d .pair-up .ensures)
+    not-matched (d .before .before .before .before .before .pre) _ _ (d .pair-up .result) _ _ _ (c .refused .result) _ _ (d .pair-up .ensures)
     (c .before .before .before .nested .given .1) (c .refused .ensures .0, c .refused .ensures .1 ∙ c .before .offset-of .ensures)
 
 enum-told : tie.Need-enum-told
@@ -33,10 +33,10 @@ enum-told c = search needs
 
 analyse-matched-requires : tie.Need-analyse-matched-requires
 analyse-matched-requires c κs =
-    let d = c .before .before .before .before .before .before in
+    let d = c .before .before .before .before .before .before .before .before in
     let w = d .before .before in
     matched (w .before .before .before .pre) _ _ (d .pair-up .result) (w .whole-words .ensures) (d .pair-up .ensures)
-    (c .before .before .before .before .enum-told .given .1)
+    (c .before .before .before .before .before .before .enum-told .given .1)
 
 returns-2 : tie.Need-returns-2
 returns-2 c = search needs

@@ -17,13 +17,13 @@ write-all-requires c κs = search needs
 returns : tie.Need-returns
 returns c = search needs
 
-slice-aggregate-read-and-print : tie.Need-slice-aggregate-read-and-print
-slice-aggregate-read-and-print c =
+slice-aggregate-print-listing : tie.Need-slice-aggregate-print-listing
+slice-aggregate-print-listing c =
     let d = c .before .before .before .before in
     sym (length-take-le (d .args .line .kept) (d .args .text .now) (d .pre .room))
 
-read-and-print-requires : tie.Need-read-and-print-requires
-read-and-print-requires c κs = search needs
+print-listing-requires : tie.Need-print-listing-requires
+print-listing-requires c κs = search needs
 
 returns-2 : tie.Need-returns-2
 returns-2 c = search needs
@@ -36,6 +36,6 @@ finish-spec =
     slice-aggregate-write-all
     write-all-requires
     returns
-    slice-aggregate-read-and-print
-    read-and-print-requires
+    slice-aggregate-print-listing
+    print-listing-requires
     returns-2)

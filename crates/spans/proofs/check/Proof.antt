@@ -1,4 +1,4 @@
--- The loop keeps that the spans opened from token `i` on, with `total` nodes before them, give the answer for the whole text.
+-- The loop keeps that the spans opened from token `i` on, with `total` nodes before them, give the answer and the roots of the text.
 use mathlib.Core.Path.{sym, _∙_}
 use mathlib.Core.List.{[]}
 use Prim.Native.Nat.{_-_}
@@ -20,21 +20,21 @@ use Rattle.spans.proofs.check.Statement.{statement}
 use Rattle.spans.proofs.check.Tie as tie
 
 abbrev Inv-spans : tie.InvT-spans
-Inv-spans K C P I Q count items₀ p₀ f₀ q₀ total₀ i₀ items p f q total i = Checking (arrays K [] [] C P I Q) count total i
+Inv-spans K C P I Q count R₀ items₀ p₀ f₀ q₀ total₀ i₀ R items p f q total i = Checking (arrays K [] [] C P I Q) count R₀ total i R
 
 abbrev μ-spans : tie.MeasureT-spans
-μ-spans K C P I Q count items₀ p₀ f₀ q₀ total₀ i₀ items p f q total i = count - i
+μ-spans K C P I Q count R₀ items₀ p₀ f₀ q₀ total₀ i₀ R items p f q total i = count - i
 
 nodes-of-requires : tie.Need-nodes-of-requires Inv-spans μ-spans
 nodes-of-requires c κs = text-fills (c .before .before .before .before .pre)
 
 returns : tie.Need-returns Inv-spans μ-spans
-returns c = text-none _ _ (c .before .nodes-of .ensures .0) (c .if1 .taken)
+returns c = text-none _ _ _ (c .before .nodes-of .ensures .0 .0) (c .if1 .taken)
 
 spans-holds : tie.Need-spans-holds Inv-spans μ-spans
 spans-holds c =
-    checking-starts _ _ (c .before .nodes-of .ensures .0) (c .before .before .before .before .before .before .pre)
-    (c .before .nodes-of .ensures .1) (c .if1 .left)
+    checking-starts _ _ _ (c .before .nodes-of .ensures .0 .0) (c .before .before .before .before .before .before .pre)
+    (c .before .nodes-of .ensures .0 .1) (c .if1 .left)
 
 add-next : tie.Need-add-next Inv-spans μ-spans
 add-next c = omega arith
@@ -63,6 +63,12 @@ nodes-of-requires-2 c κs =
     let l = t .before .before .before in
     span-fills (l .before .spans .inv) (l .if2 .left) (sym (t .before .opens-span .ensures) ∙ t .if3 .taken)
 
+mul-roots : tie.Need-mul-roots Inv-spans μ-spans
+mul-roots c = omega arith
+
+element-write-roots : tie.Need-element-write-roots Inv-spans μ-spans
+element-write-roots c = omega arith
+
 add-total : tie.Need-add-total Inv-spans μ-spans
 add-total c = omega arith
 
@@ -74,7 +80,8 @@ spans-again c =
     let t = c .before .before .before .before .before .before .before in
     let l = t .before .before .before in
     let n = c .before .nodes-of2 .ensures in
-    span-counts (l .before .spans .inv) (l .if2 .left) (sym (t .before .opens-span .ensures) ∙ t .if3 .taken) (n .0) (n .1) (c .if4 .left)
+    span-counts (l .before .spans .inv) (l .if2 .left) (sym (t .before .opens-span .ensures) ∙ t .if3 .taken) (n .0 .0) (n .0 .1)
+    (c .if4 .left) (n .1)
 
 spans-less-2 : tie.Need-spans-less-2 Inv-spans μ-spans
 spans-less-2 c = omega arith
@@ -92,7 +99,7 @@ returns-3 c =
     let t = c .before .before .before .before .before .before .before in
     let l = t .before .before .before in
     span-none (l .before .spans .inv) (l .if2 .left) (sym (t .before .opens-span .ensures) ∙ t .if3 .taken)
-    (c .before .nodes-of2 .ensures .0) (c .if4 .taken)
+    (c .before .nodes-of2 .ensures .0 .0) (c .if4 .taken)
 
 pub check-spec : {M : Type 1} → statement M
 check-spec =
@@ -110,6 +117,8 @@ check-spec =
     element-copy-out-to
     cast-to
     nodes-of-requires-2
+    mul-roots
+    element-write-roots
     add-total
     spans-less
     spans-again

@@ -1,7 +1,7 @@
--- The items are filled in and searched: without a tree the answer is 0, else the number of items.
+-- The items are filled in and searched: the nodes are 0 without a tree, else the number of items; the root is what the search answers.
 use native.Mathlib.Omega.{arith}
 use borrow.Author.Needs.{needs}
-use Rattle.spans.proofs.Steps.{filled-few, part-asks, nodes-none, nodes-some}
+use Rattle.spans.proofs.Steps.{filled-few, part-asks, root-found, nodes-none, nodes-some}
 use Rattle.spans.proofs.nodes_of.Statement.{statement}
 use Rattle.spans.proofs.nodes_of.Tie as tie
 
@@ -28,10 +28,13 @@ returns c =
     let v = w .before .before in
     let u = v .before .before in
     let f = u .before .before in
-    let s = f .before .before .before .before .before in (
-      nodes-none (s .pre) (f .fill .ensures) (u .whole-words .ensures) (v .whole-words2 .ensures) (w .whole-words3 .ensures)
-          (c .before .part .ensures) (c .if1 .taken),
-      omega arith,
+    let s = f .before .before .before .before .before in
+    let a = u .whole-words .ensures in
+    let b = v .whole-words2 .ensures in
+    let d = w .whole-words3 .ensures in
+    let e = c .before .part .ensures in (
+      (nodes-none (s .pre) (f .fill .ensures) a b d e (c .if1 .taken), omega arith),
+      root-found (s .pre) (f .fill .ensures) a b d e,
     )
 
 returns-2 : tie.Need-returns-2
@@ -40,10 +43,13 @@ returns-2 c =
     let v = w .before .before in
     let u = v .before .before in
     let f = u .before .before in
-    let s = f .before .before .before .before .before in (
-      nodes-some (s .pre) (f .fill .ensures) (u .whole-words .ensures) (v .whole-words2 .ensures) (w .whole-words3 .ensures)
-          (c .before .part .ensures) (c .if1 .left),
-      filled-few (s .pre) (f .fill .ensures),
+    let s = f .before .before .before .before .before in
+    let a = u .whole-words .ensures in
+    let b = v .whole-words2 .ensures in
+    let d = w .whole-words3 .ensures in
+    let e = c .before .part .ensures in (
+      (nodes-some (s .pre) (f .fill .ensures) a b d e (c .if1 .left), filled-few (s .pre) (f .fill .ensures)),
+      root-found (s .pre) (f .fill .ensures) a b d e,
     )
 
 pub nodes-of-spec : {M : Type 1} → statement M

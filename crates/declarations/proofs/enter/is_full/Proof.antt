@@ -15,8 +15,8 @@ start c = c .before .before .before .before
 returns : tie.Need-returns
 returns c = full-below _ _ _ _ _ (c .if1 .taken)
 
-cut-requires : tie.Need-cut-requires
-cut-requires c κs = search needs
+bytes-at-requires : tie.Need-bytes-at-requires
+bytes-at-requires c κs = search needs
 
 find-requires : tie.Need-find-requires
 find-requires c κs = search needs
@@ -35,7 +35,7 @@ abbrev name : tie.Start → Bytes
 name s = take (s .args .size) (drop (s .args .start) (s .args .text .now))
 
 found : (c : tie.After-find) → c .find .result ≡ finds (start c) (name (start c))
-found c = c .find .ensures ∙ ap (finds (start c)) (c .before .cut .ensures)
+found c = c .find .ensures ∙ ap (finds (start c)) (c .before .bytes-at .ensures)
 
 returns-2 : tie.Need-returns-2
 returns-2 c =
@@ -50,4 +50,4 @@ returns-3 c =
 pub is-full-spec : {M : Type 1} → statement M
 is-full-spec =
     tie.close
-    (tie.spec returns cut-requires find-requires enum-told enum-told-2 returns-2 returns-3)
+    (tie.spec returns bytes-at-requires find-requires enum-told enum-told-2 returns-2 returns-3)

@@ -1,15 +1,21 @@
 -- The tests are those of `expected`, and then those of `closed`. Assumes nothing.
-use mathlib.Core.Path.{sym, _∙_}
+use mathlib.Core.Path.{sym, ap, _∙_}
 use borrow.Author.Needs.{needs}
 use Rattle.declarations.proofs.Parts.{expected-end, expected-here, expected-other}
 use Rattle.declarations.proofs.parse.operator_part.Statement.{statement}
 use Rattle.declarations.proofs.parse.operator_part.Tie as tie
 
 returns : tie.Need-returns
-returns c = sym (expected-end 1 _ _ _ _ _ (c .if1 .taken))
+returns c = sym (expected-end 1 _ _ _ _ _ _ (c .if1 .taken))
 
-element-copy-out-if2 : tie.Need-element-copy-out-if2
-element-copy-out-if2 c = search needs
+mul-look : tie.Need-mul-look
+mul-look c = search needs
+
+element-copy-out-look : tie.Need-element-copy-out-look
+element-copy-out-look c = search needs
+
+look-requires : tie.Need-look-requires
+look-requires c κs = search needs
 
 add-closed : tie.Need-add-closed
 add-closed c = search needs
@@ -22,18 +28,24 @@ closed-requires c κs = search needs
 
 returns-2 : tie.Need-returns-2
 returns-2 c =
-    let d = c .before in
-    c .closed .ensures ∙ sym (expected-here 1 _ _ _ _ _ (d .before .before .if1 .left) (d .if2 .taken))
+    let e = c .before in
+    let d = e .before .before in
+    c .closed .ensures
+    ∙ sym (expected-here 1 _ _ _ _ _ _ _ (ap (λ s. s .kind) (d .look .ensures)) (d .before .before .if1 .left) (e .if2 .taken))
 
 returns-3 : tie.Need-returns-3
-returns-3 c = sym (expected-other 1 _ _ _ _ _ (c .before .before .if1 .left) (c .if2 .left))
+returns-3 c =
+    let d = c .before .before in
+    sym (expected-other 1 _ _ _ _ _ _ _ (ap (λ s. s .kind) (d .look .ensures)) (d .before .before .if1 .left) (c .if2 .left))
 
 pub operator-part-spec : {M : Type 1} → statement M
 operator-part-spec =
     tie.close
     (tie.spec
     returns
-    element-copy-out-if2
+    mul-look
+    element-copy-out-look
+    look-requires
     add-closed
     add-closed-2
     closed-requires

@@ -4,7 +4,7 @@ use Prim.Native.Nat.{_-_}
 use native.Mathlib.Omega.{arith}
 use borrow.Author.Needs.{needs}
 use Rattle.grammar.specs.Answer.{mostTokens}
-use Rattle.scan.proofs.Scans.{Scans, begun, at-within, at-end, at-wrong, size-fits, next-within, at-full, at-next}
+use Rattle.scan.proofs.Scans.{Scans, begun, at-within, at-end, at-wrong, taken-size, next-within, at-full, at-next}
 use Rattle.scan.proofs.tokens.scan.Statement.{statement}
 use Rattle.scan.proofs.tokens.scan.Tie as tie
 
@@ -67,7 +67,7 @@ element-write-starts c = search needs
 cast-sizes : tie.Need-cast-sizes Inv-loop μ-loop
 cast-sizes c =
     let d = c .before .before .before .before in
-    omega (arith, size-fits (d .before .before .loop .inv) (d .before .run .ensures) (sym (d .front-at .ensures) ∙ c .before .before .kind .given .1))
+    omega (arith, taken-size _ (sym (d .front-at .ensures) ∙ c .before .before .kind .given .1))
 
 element-write-sizes : tie.Need-element-write-sizes Inv-loop μ-loop
 element-write-sizes c = search needs

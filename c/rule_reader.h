@@ -1,0 +1,110 @@
+/*
+ * The rule reader for C and C++: two services, proved against the definitions of document 01.
+ *
+ *     rule_read           turns a text into a tree, written as a table of 32-bit words
+ *     rule_canonicalize   turns a text into its canonical text
+ *
+ * Link with target/staticlib/libarchive.a (x86-64 Linux), which `rt staticlib archive` writes. It needs memcpy and memset and
+ * nothing else.
+ *
+ * Arguments. Each of the two lent parts is a pointer and a length. The text is any bytes; it is not changed, and it needs no zero
+ * byte at its end. Lengths may be 0, of the text (refused with RULE_NO_TREE) and of the table or buffer. What is required of a
+ * call, and checked by nobody:
+ *   - each pointer is valid for its length, `nodes` also aligned for uint32_t;
+ *   - the table or buffer does not overlap the text;
+ *   - no pointer is null. This holds for length 0 too: the kit does not say that null can stand for an empty slice. Pass any
+ *     other pointer, "" for example. (This archive goes through no pointer whose length is 0; c/test.c tries null there. That is
+ *     tested, not proved.)
+ *
+ * Threads. There are no variables outside a call: several threads may call at once, each with a table or buffer of its own.
+ *
+ * Stack. Measured, the most found: 304,296 bytes for rule_read and 122,216 bytes for rule_canonicalize, both for a text of 1,024
+ * tokens, `not` 1,023 times and then a name. A thread with 512 KB has enough.
+ */
+#ifndef RULE_READER_H
+#define RULE_READER_H
+
+#include <stddef.h>
+#include <stdint.h>
+
+#ifdef __cplusplus
+extern "C" {
+#endif
+
+enum {
+    RULE_MAX_TEXT = 16384,      /* bytes of a text; a longer one is refused with RULE_TEXT_TOO_LONG */
+    RULE_MAX_NODES = 1024,      /* nodes of a text, at most */
+    RULE_NODE_WORDS = 5,        /* words to a node */
+    RULE_TABLE_WORDS = 5120,    /* words of a node table that is long enough for every text */
+    RULE_BUFFER_BYTES = 16384   /* bytes of a buffer that is long enough for every canonical text */
+};
+
+/* The numbers of an answer. The place, if it is refused, is the answer's offset: a byte of the text, from 0 on. */
+enum rule_number {
+    RULE_READ = 0,                   /* read, or canonical text written */
+    RULE_TEXT_TOO_LONG = 1,          /* the text has more than 16,384 bytes; place 16384 */
+    RULE_BAD_BYTE = 2,               /* a byte begins no token; the byte */
+    RULE_BAD_QUOTED_NAME = 3,        /* a quoted name is malformed or not closed; its opening quote */
+    RULE_TOKEN_TOO_LONG = 4,         /* a word or sign has more than 63 bytes, a number more than 9 digits; its start */
+    RULE_TOO_MANY_TOKENS = 5,        /* there is a 1,025th token; its start */
+    RULE_UNMATCHED = 6,              /* brackets or blocks do not match; the token, or the text's length if one is left open */
+    RULE_TOO_DEEP = 7,               /* brackets and blocks are more than 32 deep; the opener */
+    RULE_BAD_DECLARATION = 8,        /* a declaration is malformed, or its precedence is not 1 to 1200; the first unfit token */
+    RULE_TOO_MANY_OPERATORS = 9,     /* a 65th operator is in force; the operator */
+    RULE_BAD_OVERLOADING = 10,       /* the roles of an operator do not go together; the `in` */
+    RULE_NO_TREE = 11,               /* a span has no tree; 0 for the whole text, the `(`, or the `in` */
+    RULE_TABLE_TOO_SHORT = 12,       /* rule_read: the node table is too short; 0 */
+    RULE_CANONICAL_TOO_LONG = 13     /* rule_canonicalize: the canonical text is over the buffer or 16,384 bytes; 0 */
+};
+
+/*
+ * The answer of both services. Number RULE_READ: offset 0, and count is how many nodes or bytes were written. Any other number is
+ * a refusal: offset is its place, count is 0, and no word or byte of the table or buffer has changed.
+ */
+struct rule_answer {
+    uint8_t number;
+    size_t offset;
+    size_t count;
+};
+
+/* The words of a node. Unused ones are 0. */
+enum rule_word {
+    RULE_NODE_KIND = 0,
+    RULE_NODE_FIRST = 1,     /* number of the first or only child */
+    RULE_NODE_SECOND = 2,    /* number of the second child */
+    RULE_NODE_OFFSET = 3,    /* part of the text: where, and how many bytes */
+    RULE_NODE_LENGTH = 4
+};
+
+/* The kinds of a node: its children, and its part of the text. */
+enum rule_kind {
+    RULE_NAME = 1,       /* none; the characters, without quotes */
+    RULE_NUMBER = 2,     /* none; the digits */
+    RULE_PREFIX = 3,     /* the operand; the operator */
+    RULE_INFIX = 4,      /* the left and the right operand; the operator */
+    RULE_POSTFIX = 5,    /* the operand; the operator */
+    RULE_BRACKET = 6,    /* what it holds; offset and length are 0 */
+    RULE_BLOCK = 7       /* the body; `let` to `in`, both included */
+};
+
+/*
+ * Reads a text into a node table. `nodes_length` counts words. Node number i has the words 5 * i to 5 * i + 4. Children come
+ * before their parents, left before right; the root is node count - 1. Words behind the nodes keep their contents.
+ * Gives RULE_READ and the refusals 1 to 12. RULE_TABLE_WORDS words are always enough: then never 12.
+ */
+struct rule_answer rule_read(const uint8_t *text, size_t text_length, uint32_t *nodes, size_t nodes_length);
+
+/*
+ * Writes the canonical text of a text into a buffer: no bracket that means nothing, no leading zeros, no quotes that a name does
+ * not need, one space between tokens. `buffer_length` counts bytes. No zero byte is added; bytes behind the canonical text keep
+ * their contents.
+ * Gives RULE_READ and the refusals 1 to 11 and 13; 1 to 11 exactly where rule_read gives them, at the same place. With
+ * RULE_BUFFER_BYTES bytes 13 is given only where the canonical text is longer than 16,384 bytes, which no buffer helps.
+ */
+struct rule_answer rule_canonicalize(const uint8_t *text, size_t text_length, uint8_t *buffer, size_t buffer_length);
+
+#ifdef __cplusplus
+}
+#endif
+
+#endif

@@ -1,0 +1,471 @@
+/*
+ * A test of both services by what must hold of every call: damaged texts, random texts, lent parts of every length around the
+ * result. A text begins or ends at a page that may not be touched. Before and behind the lent part of a table or buffer stands
+ * a pattern.
+ */
+#define _DEFAULT_SOURCE
+#include "rule_reader.h"
+
+#include <stdarg.h>
+#include <stdbool.h>
+#include <stdio.h>
+#include <stdlib.h>
+#include <string.h>
+#include <sys/mman.h>
+#include <unistd.h>
+
+_Static_assert(sizeof(struct rule_answer) == 24, "size of the answer");
+_Static_assert(offsetof(struct rule_answer, offset) == 8 && offsetof(struct rule_answer, count) == 16, "fields of the answer");
+
+enum { MARGIN = 64, SPARE = 100, LONGEST = 2 * RULE_MAX_TEXT };
+
+/* Room for a text between two pages without access. */
+static uint8_t *text_start, *text_end;
+static uint32_t table[MARGIN + RULE_TABLE_WORDS + SPARE + MARGIN];
+static uint8_t bytes[MARGIN + RULE_BUFFER_BYTES + SPARE + MARGIN];
+
+static unsigned long calls, by_number[14];
+
+static void fail(const uint8_t *text, size_t length, const char *format, ...)
+{
+    va_list arguments;
+    va_start(arguments, format);
+    fputs("FAIL: ", stdout);
+    vprintf(format, arguments);
+    va_end(arguments);
+    fputs("\ntext, in hexadecimal: ", stdout);
+    for (size_t i = 0; i < length; i++)
+        printf("%02x", text[i]);
+    fputs("\n", stdout);
+    exit(1);
+}
+
+#define CHECK(holds, ...) do { if (!(holds)) fail(text, length, __VA_ARGS__); } while (0)
+
+/* ---- random numbers with a fixed seed (xorshift) */
+
+static uint64_t state = 0x9E3779B97F4A7C15u;
+
+static uint64_t bits(void)
+{
+    state ^= state << 13;
+    state ^= state >> 7;
+    state ^= state << 17;
+    return state;
+}
+
+static size_t below(size_t n)
+{
+    return (size_t)((bits() >> 16) % n);
+}
+
+/* ---- one call, with the checks that hold for every call */
+
+/* The item at place `i` of a pattern that differs from call to call. */
+static uint32_t pattern(size_t i)
+{
+    return (uint32_t)((calls + i + 1) * 0x9E3779B1u);
+}
+
+static uint8_t *put_text(const uint8_t *text, size_t length)
+{
+    uint8_t *start = below(2) == 0 ? text_start : text_end - length;
+    if (length != 0)
+        memcpy(start, text, length);
+    return start;
+}
+
+/* What both answers have in common; `written` is the count in items of the lent part, `lent` its length. */
+static void check_answer(const uint8_t *text, size_t length, struct rule_answer answer, size_t written, size_t lent)
+{
+    CHECK(answer.number <= 13, "number %d", answer.number);
+    if (answer.number == RULE_READ) {
+        CHECK(answer.offset == 0, "read at %zu", answer.offset);
+        CHECK(answer.count >= 1 && written <= lent, "count %zu in a lent part of %zu", answer.count, lent);
+    } else {
+        CHECK(answer.count == 0, "refused %d with count %zu", answer.number, answer.count);
+        if (answer.number == RULE_TEXT_TOO_LONG)
+            CHECK(answer.offset == RULE_MAX_TEXT && length > RULE_MAX_TEXT, "refused 1 at %zu", answer.offset);
+        else if (answer.number >= RULE_TABLE_TOO_SHORT)
+            CHECK(answer.offset == 0, "refused %d at %zu", answer.number, answer.offset);
+        else
+            CHECK(answer.offset <= length, "refused %d at %zu", answer.number, answer.offset);
+    }
+    by_number[answer.number]++;
+}
+
+/* The nodes of a table form one tree: each child before its one parent, unused words 0, parts inside the text. */
+static void check_nodes(const uint8_t *text, size_t length, const uint32_t *nodes, size_t count)
+{
+    static bool has_parent[RULE_MAX_NODES];
+    CHECK(count <= RULE_MAX_NODES, "%zu nodes", count);
+    memset(has_parent, 0, sizeof has_parent);
+    for (size_t i = 0; i < count; i++) {
+        const uint32_t *node = nodes + RULE_NODE_WORDS * i;
+        uint32_t kind = node[RULE_NODE_KIND];
+        CHECK(kind >= RULE_NAME && kind <= RULE_BLOCK, "node %zu: kind %u", i, (unsigned)kind);
+        size_t children = kind <= RULE_NUMBER ? 0 : kind == RULE_INFIX ? 2 : 1;
+        for (size_t c = 0; c < 2; c++) {
+            uint32_t child = node[RULE_NODE_FIRST + c];
+            if (c >= children) {
+                CHECK(child == 0, "node %zu: unused word %u", i, (unsigned)child);
+            } else {
+                CHECK(child < i && !has_parent[child], "node %zu: child %u", i, (unsigned)child);
+                has_parent[child] = true;
+            }
+        }
+        size_t offset = node[RULE_NODE_OFFSET], size = node[RULE_NODE_LENGTH];
+        CHECK(offset + size <= length, "node %zu: %zu bytes at %zu", i, size, offset);
+        CHECK(kind == RULE_BRACKET ? offset == 0 && size == 0 : size > 0, "node %zu: %zu bytes at %zu", i, size, offset);
+    }
+    for (size_t i = 0; i + 1 < count; i++)
+        CHECK(has_parent[i], "node %zu has no parent", i);
+}
+
+/* rule_read into a lent part of `lent` words; the nodes stand at table + MARGIN. */
+static struct rule_answer call_read(const uint8_t *text, size_t length, size_t lent)
+{
+    size_t all = MARGIN + lent + MARGIN;
+    uint8_t *start = put_text(text, length);
+    for (size_t i = 0; i < all; i++)
+        table[i] = pattern(i);
+    struct rule_answer answer = rule_read(start, length, table + MARGIN, lent);
+    size_t written = RULE_NODE_WORDS * answer.count;
+    check_answer(text, length, answer, written, lent);
+    CHECK(answer.number != RULE_CANONICAL_TOO_LONG, "rule_read refused 13");
+    CHECK(length == 0 || memcmp(start, text, length) == 0, "rule_read changed the text");
+    for (size_t i = 0; i < all; i++)
+        CHECK((i >= MARGIN && i < MARGIN + written) || table[i] == pattern(i), "rule_read: word %zu of %zu", i - MARGIN, lent);
+    check_nodes(text, length, table + MARGIN, answer.count);
+    calls++;
+    return answer;
+}
+
+/* rule_canonicalize into a lent part of `lent` bytes; the canonical text stands at bytes + MARGIN. */
+static struct rule_answer call_canonicalize(const uint8_t *text, size_t length, size_t lent)
+{
+    size_t all = MARGIN + lent + MARGIN;
+    uint8_t *start = put_text(text, length);
+    for (size_t i = 0; i < all; i++)
+        bytes[i] = (uint8_t)(pattern(i) >> 24);
+    struct rule_answer answer = rule_canonicalize(start, length, bytes + MARGIN, lent);
+    check_answer(text, length, answer, answer.count, lent);
+    CHECK(answer.number != RULE_TABLE_TOO_SHORT, "rule_canonicalize refused 12");
+    CHECK(answer.count <= RULE_MAX_TEXT, "canonical text of %zu bytes", answer.count);
+    CHECK(length == 0 || memcmp(start, text, length) == 0, "rule_canonicalize changed the text");
+    for (size_t i = 0; i < all; i++)
+        CHECK((i >= MARGIN && i < MARGIN + answer.count) || bytes[i] == (uint8_t)(pattern(i) >> 24),
+              "rule_canonicalize: byte %zu of %zu", i - MARGIN, lent);
+    calls++;
+    return answer;
+}
+
+/* ---- both services on one text */
+
+/* A text with its node table. */
+struct reading {
+    const uint8_t *text;
+    uint32_t nodes[RULE_TABLE_WORDS];
+};
+
+static const uint32_t *node_at(const struct reading *reading, uint32_t i)
+{
+    const uint32_t *node = reading->nodes + RULE_NODE_WORDS * i;
+    return node[RULE_NODE_KIND] == RULE_BRACKET ? node_at(reading, node[RULE_NODE_FIRST]) : node;
+}
+
+/* Whether two trees agree, brackets aside: names by characters, numbers by value, operators by bytes; declarations not compared. */
+static bool agree(const struct reading *a, uint32_t i, const struct reading *b, uint32_t j)
+{
+    const uint32_t *n = node_at(a, i), *m = node_at(b, j);
+    uint32_t kind = n[RULE_NODE_KIND];
+    if (kind != m[RULE_NODE_KIND])
+        return false;
+    if (kind != RULE_BLOCK) {
+        const uint8_t *s = a->text + n[RULE_NODE_OFFSET], *t = b->text + m[RULE_NODE_OFFSET];
+        size_t s_length = n[RULE_NODE_LENGTH], t_length = m[RULE_NODE_LENGTH];
+        if (kind == RULE_NUMBER) {
+            for (; s_length > 1 && *s == '0'; s_length--)
+                s++;
+            for (; t_length > 1 && *t == '0'; t_length--)
+                t++;
+        }
+        if (s_length != t_length || memcmp(s, t, s_length) != 0)
+            return false;
+    }
+    if (kind <= RULE_NUMBER)
+        return true;
+    return agree(a, n[RULE_NODE_FIRST], b, m[RULE_NODE_FIRST])
+        && (kind != RULE_INFIX || agree(a, n[RULE_NODE_SECOND], b, m[RULE_NODE_SECOND]));
+}
+
+/* Both services with lent parts that are long enough. */
+static struct rule_answer try_text(const void *bytes_of_text, size_t length)
+{
+    static struct reading first, second;
+    static uint8_t canonical[RULE_MAX_TEXT];
+    const uint8_t *text = (const uint8_t *)bytes_of_text;
+
+    struct rule_answer read = call_read(text, length, RULE_TABLE_WORDS);
+    CHECK(read.number != RULE_TABLE_TOO_SHORT, "refused 12 with %d words", RULE_TABLE_WORDS);
+    struct rule_answer answer = call_canonicalize(text, length, RULE_BUFFER_BYTES);
+    if (read.number != RULE_READ) {
+        CHECK(answer.number == read.number && answer.offset == read.offset,
+              "rule_read refused %d at %zu, rule_canonicalize %d at %zu", read.number, read.offset, answer.number, answer.offset);
+        return read;
+    }
+    CHECK(answer.number == RULE_READ || answer.number == RULE_CANONICAL_TOO_LONG, "read, but refused %d", answer.number);
+    if (answer.number != RULE_READ)
+        return read;
+
+    /* The canonical text reads to a tree that agrees, and is its own canonical text. */
+    memcpy(canonical, bytes + MARGIN, answer.count);
+    first.text = text;
+    memcpy(first.nodes, table + MARGIN, sizeof(uint32_t) * RULE_NODE_WORDS * read.count);
+    struct rule_answer again = call_read(canonical, answer.count, RULE_TABLE_WORDS);
+    CHECK(again.number == RULE_READ && again.count <= read.count, "canonical text read: %d, count %zu", again.number, again.count);
+    second.text = canonical;
+    memcpy(second.nodes, table + MARGIN, sizeof(uint32_t) * RULE_NODE_WORDS * again.count);
+    CHECK(agree(&first, (uint32_t)read.count - 1, &second, (uint32_t)again.count - 1), "canonical text: another tree");
+    again = call_canonicalize(canonical, answer.count, RULE_BUFFER_BYTES);
+    CHECK(again.number == RULE_READ && again.count == answer.count && memcmp(canonical, bytes + MARGIN, answer.count) == 0,
+          "canonical text of canonical text: answer %d, count %zu", again.number, again.count);
+    return read;
+}
+
+/* Lent parts of every length around the result, and short ones. */
+static void try_lengths(const void *bytes_of_text, size_t length)
+{
+    const uint8_t *text = (const uint8_t *)bytes_of_text;
+    struct rule_answer full = call_read(text, length, RULE_TABLE_WORDS);
+    size_t needed = RULE_NODE_WORDS * full.count;
+    for (size_t lent = 0; lent <= needed + 12; lent++) {
+        struct rule_answer answer = call_read(text, length, lent);
+        int expected = full.number != RULE_READ || lent >= needed ? full.number : RULE_TABLE_TOO_SHORT;
+        CHECK(answer.number == expected, "rule_read into %zu words: %d", lent, answer.number);
+    }
+    full = call_canonicalize(text, length, RULE_BUFFER_BYTES);
+    needed = full.count;
+    for (size_t lent = 0; lent <= needed + 12; lent++) {
+        struct rule_answer answer = call_canonicalize(text, length, lent);
+        int expected = full.number != RULE_READ || lent >= needed ? full.number : RULE_CANONICAL_TOO_LONG;
+        CHECK(answer.number == expected, "rule_canonicalize into %zu bytes: %d", lent, answer.number);
+    }
+    call_read(text, length, RULE_TABLE_WORDS + SPARE);
+    call_canonicalize(text, length, RULE_BUFFER_BYTES + SPARE);
+}
+
+/* ---- texts */
+
+static const char *const texts[] = {
+    "a", "a + b * 3", "a - b - c", "- a + b", "- a * b", "a * - b", "a = b = c", "((a)) * (b + c)", "'not' = '12'", "( a",
+    "a , b",
+    "grade = 007 and not (leaver)",
+    "age < 18 and not member or visits * 2 + guests = limit - 1",
+    "let infix right 400 r ; in a r b + c end",
+    "let infix right 400 r ; in a + b r c end",
+    "let infix left 450 s ; postfix left 450 s ; in a s - b end",
+    "let infix left 350 s ; postfix left 350 s ; in a s - b end",
+    "let infix left 300 - ; prefix non 300 - ; in a end",
+    "let infix right 400 - ; in a end",
+    "let infix left 0 + ; in a end",
+    "let plain and ; infix left 0650 && ; in and && ( let in 'x y' end ) && 'and' end or 000",
+    "let prefix right 1200 # ; postfix non 001 ? ; in # # ( ( a ? ) * ( 'b' ) ) end",
+};
+
+static void try_prefixes(const char *text)
+{
+    for (size_t length = 0; length <= strlen(text); length++)
+        try_text(text, length);
+}
+
+static void try_changes(const char *original)
+{
+    char text[200];
+    size_t length = strlen(original);
+    for (size_t i = 0; i < length; i++) {
+        for (int change = 1; change < 256; change++) {
+            memcpy(text, original, length);
+            text[i] = (char)(text[i] ^ change);
+            try_text(text, length);
+        }
+    }
+}
+
+/* Random bytes, random bytes that begin tokens, and random tokens. */
+static void try_random(int rounds)
+{
+    static const char alphabet[] = "aab ()';=+-*<0123 \t\n_:&";
+    static const char *const tokens[] = {
+        "a", "b", "'a'", "'not'", "7", "00", "(", ")", "( a )", "=", "<", "+", "-", "*", "and", "or", "not", "let", "in", "end",
+        ";", "infix", "prefix", "postfix", "plain", "left", "right", "non", "400", "0400", "1200",
+        "let infix left 400 r ; in", "let prefix right 400 + ; in", "let plain - ; in", "a + b",
+    };
+    static char text[4096];
+    for (int round = 0; round < rounds; round++) {
+        size_t length = below(round % 16 == 0 ? 400 : 40);
+        for (size_t i = 0; i < length; i++)
+            text[i] = (char)bits();
+        try_text(text, length);
+        for (size_t i = 0; i < length; i++)
+            text[i] = alphabet[below(sizeof alphabet - 1)];
+        try_text(text, length);
+        size_t parts = below(round % 16 == 0 ? 100 : 12), end = 0;
+        for (size_t i = 0; i < parts; i++) {
+            const char *token = tokens[below(sizeof tokens / sizeof *tokens)];
+            size_t size = strlen(token);
+            memcpy(text + end, token, size);
+            end += size;
+            if (below(8) != 0)
+                text[end++] = ' ';
+        }
+        try_text(text, end);
+        if (round % 16 == 0)
+            try_lengths(text, end);
+    }
+}
+
+static char long_text[LONGEST + 1];
+
+static void repeat(const char *part, int times)
+{
+    size_t end = strlen(long_text), size = strlen(part);
+    for (int i = 0; i < times; i++, end += size)
+        memcpy(long_text + end, part, size + 1);
+}
+
+/* Tries the text of the last repeats and checks the answer; count 0 stands for a refusal's. */
+static void expect(enum rule_number number, size_t offset, size_t count)
+{
+    const uint8_t *text = (const uint8_t *)long_text;
+    size_t length = strlen(long_text);
+    struct rule_answer answer = try_text(long_text, length);
+    CHECK(answer.number == number && answer.offset == offset && answer.count == count, "expected %d %zu %zu, got %d %zu %zu",
+          number, offset, count, answer.number, answer.offset, answer.count);
+    long_text[0] = 0;
+}
+
+/* Document 01's limits, at the value and one past it, and its example of each refusal. */
+static void try_limits(void)
+{
+    expect(RULE_NO_TREE, 0, 0);
+    repeat(" ", RULE_MAX_TEXT - 1); repeat("a", 1); expect(RULE_READ, 0, 1);
+    repeat(" ", RULE_MAX_TEXT); repeat("a", 1); expect(RULE_TEXT_TOO_LONG, RULE_MAX_TEXT, 0);
+    repeat("a", RULE_MAX_TEXT + 1); expect(RULE_TEXT_TOO_LONG, RULE_MAX_TEXT, 0);
+    repeat("(", LONGEST); expect(RULE_TEXT_TOO_LONG, RULE_MAX_TEXT, 0);
+    repeat("a , b", 1); expect(RULE_BAD_BYTE, 2, 0);
+    repeat("a + 'b", 1); expect(RULE_BAD_QUOTED_NAME, 4, 0);
+    repeat("''", 1); expect(RULE_BAD_QUOTED_NAME, 0, 0);
+    repeat("a", 63); expect(RULE_READ, 0, 1);
+    repeat("a", 64); expect(RULE_TOKEN_TOO_LONG, 0, 0);
+    repeat("1234567890", 1); expect(RULE_TOKEN_TOO_LONG, 0, 0);
+    repeat("not ", 1023); repeat("a", 1); expect(RULE_READ, 0, RULE_MAX_NODES);
+    repeat("not ", 1024); repeat("a", 1); expect(RULE_TOO_MANY_TOKENS, 4096, 0);
+    repeat("a ", 1025); expect(RULE_TOO_MANY_TOKENS, 2048, 0);
+    repeat("( a", 1); expect(RULE_UNMATCHED, 3, 0);
+    repeat("(", 32); repeat("a", 1); repeat(")", 32); expect(RULE_READ, 0, 33);
+    repeat("(", 33); expect(RULE_TOO_DEEP, 32, 0);
+    repeat("let in a end", 1); expect(RULE_READ, 0, 2);
+    repeat("let infix left 1200 r ; in a end", 1); expect(RULE_READ, 0, 2);
+    repeat("let infix left 1201 r ; in a end", 1); expect(RULE_BAD_DECLARATION, 15, 0);
+    repeat("let infix left 0 + ; in a end", 1); expect(RULE_BAD_DECLARATION, 15, 0);
+    repeat("let infix right 400 - ; in a end", 1); expect(RULE_BAD_OVERLOADING, 24, 0);
+    repeat("a - - b", 1); expect(RULE_NO_TREE, 0, 0);
+    for (int operators = 56; operators <= 57; operators++) {
+        char declaration[40];
+        repeat("let ", 1);
+        for (int i = 10; i < 10 + operators; i++) {
+            snprintf(declaration, sizeof declaration, "infix left 350 o%d ; ", i);
+            repeat(declaration, 1);
+        }
+        repeat("in a end", 1);
+        /* The 57th new operator stands 15 bytes into the 57th declaration, of 21 bytes each. */
+        if (operators == 56)
+            expect(RULE_READ, 0, 2);
+        else
+            expect(RULE_TOO_MANY_OPERATORS, 4 + 56 * 21 + 15, 0);
+    }
+    /* Read, but with spaces between its tokens longer than 16,384 bytes. */
+    for (int i = 0; i < 511; i++)
+        repeat("aaaaaaaaaaaaaaaaaaaaaaaaaaaaaa+", 1);
+    repeat("a", 1);
+    const uint8_t *text = (const uint8_t *)long_text;
+    size_t length = strlen(long_text);
+    struct rule_answer answer = call_canonicalize(text, length, RULE_BUFFER_BYTES + SPARE);
+    CHECK(answer.number == RULE_CANONICAL_TOO_LONG, "canonical text over 16,384 bytes: %d", answer.number);
+    expect(RULE_READ, 0, 1023);
+}
+
+/* T3 of document 01, to the byte, and the canonical texts of T13 and T14. */
+static void try_cases(void)
+{
+    static const uint32_t nodes[] = {
+        RULE_NAME, 0, 0, 0, 1, RULE_NAME, 0, 0, 4, 1, RULE_NUMBER, 0, 0, 8, 1, RULE_INFIX, 1, 2, 6, 1, RULE_INFIX, 0, 3, 2, 1,
+    };
+    static const char *const canonical[][2] = {
+        {"a + b * 3", "a + b * 3"}, {"((a)) * (b + c)", "a * ( b + c )"}, {"'not' = '12'", "'not' = '12'"},
+        {"a+b", "a + b"}, {"( 000 ) < 'a' * 0012", "0 < a * 12"},
+        {"let infix left 0650 && ; in 'a' && 'and' end", "let infix left 650 && ; in a && 'and' end"},
+    };
+    const uint8_t *text = (const uint8_t *)"a + b * 3";
+    size_t length = 9;
+    struct rule_answer answer = call_read(text, length, RULE_TABLE_WORDS);
+    CHECK(answer.number == RULE_READ && answer.count == 5 && memcmp(nodes, table + MARGIN, sizeof nodes) == 0, "T3");
+    for (size_t i = 0; i < sizeof canonical / sizeof *canonical; i++) {
+        text = (const uint8_t *)canonical[i][0];
+        length = strlen(canonical[i][0]);
+        answer = call_canonicalize(text, length, RULE_BUFFER_BYTES);
+        CHECK(answer.count == strlen(canonical[i][1]) && memcmp(canonical[i][1], bytes + MARGIN, answer.count) == 0,
+              "canonical text, count %zu", answer.count);
+    }
+}
+
+static void expect_refusal(const uint8_t *text, size_t length, struct rule_answer answer, enum rule_number number)
+{
+    check_answer(text, length, answer, 0, 0);
+    CHECK(answer.number == number && answer.offset == 0, "expected %d at 0, got %d at %zu", number, answer.number, answer.offset);
+    calls++;
+}
+
+/* Zero lengths, with a pointer to a page that may not be touched, and with null. */
+static void try_empty(void)
+{
+    const uint8_t *text = (const uint8_t *)"a";
+    for (int null = 0; null < 2; null++) {
+        uint8_t *nowhere = null ? NULL : text_end;
+        uint32_t *no_words = (uint32_t *)(void *)nowhere;
+        expect_refusal(text, 0, rule_read(nowhere, 0, no_words, 0), RULE_NO_TREE);
+        expect_refusal(text, 0, rule_canonicalize(nowhere, 0, nowhere, 0), RULE_NO_TREE);
+        expect_refusal(text, 1, rule_read(text, 1, no_words, 0), RULE_TABLE_TOO_SHORT);
+        expect_refusal(text, 1, rule_canonicalize(text, 1, nowhere, 0), RULE_CANONICAL_TOO_LONG);
+    }
+}
+
+int main(void)
+{
+    size_t page = (size_t)sysconf(_SC_PAGESIZE);
+    size_t room = (LONGEST + page - 1) / page * page;
+    uint8_t *pages = mmap(NULL, page + room + page, PROT_NONE, MAP_PRIVATE | MAP_ANONYMOUS, -1, 0);
+    if (pages == MAP_FAILED || mprotect(pages + page, room, PROT_READ | PROT_WRITE) != 0) {
+        perror("mmap");
+        return 1;
+    }
+    text_start = pages + page;
+    text_end = text_start + room;
+
+    try_cases();
+    try_empty();
+    try_limits();
+    for (size_t i = 0; i < sizeof texts / sizeof *texts; i++) {
+        try_prefixes(texts[i]);
+        try_changes(texts[i]);
+        try_lengths(texts[i], strlen(texts[i]));
+    }
+    try_random(20000);
+
+    printf("%lu calls; by number:", calls);
+    for (int i = 0; i < 14; i++)
+        printf(" %lu", by_number[i]);
+    printf("\n");
+    return 0;
+}

@@ -1,0 +1,17 @@
+-- What putting bytes into a buffer does.
+use mathlib.Core.Path.{_≡_}
+use mathlib.Core.Bool.{Bool, true, false}
+use mathlib.Core.List.{List, _∷_}
+use Prim.Native.Nat.{ℕ, _+_}
+use lib.ListN.{length}
+use lib.Seq.{sets}
+use Rattle.grammar.specs.Bytes.{Bytes}
+
+-- `part` is put into a buffer from place `n` on, and `r` is the place behind it.
+pub record Put (buffer : List ℕ) (n : ℕ) (part : Bytes) (buffer′ : List ℕ) (r : ℕ) : Type 0 where
+  pub size : r ≡ n + length part
+  pub stored : buffer′ ≡ sets buffer n part
+
+-- A piece as it is written: with a space before it if it is not the first.
+unfoldable pub behind : Bool → Bytes → Bytes
+behind first part = elim first [ true ↦ part | false ↦ 32 ∷ part ]

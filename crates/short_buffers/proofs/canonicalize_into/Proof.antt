@@ -1,0 +1,81 @@
+-- The buffer keeps its length. Assumes nothing.
+use mathlib.Core.Path.{_≡_, sym, _∙_}
+use mathlib.Core.List.{List, _++_}
+use Prim.Native.Nat.{ℕ}
+use native.Mathlib.Omega.{arith}
+use borrow.Author.Needs.{needs}
+use borrow.Table.Elements.{same-len}
+use lib.ListN.{length, drop}
+use lib.Seq.{length-take-le}
+use Rattle.short_buffers.proofs.canonicalize_into.Statement.{statement}
+use Rattle.short_buffers.proofs.canonicalize_into.Tie as tie
+
+slice-aggregate-fill : tie.Need-slice-aggregate-fill
+slice-aggregate-fill c = search needs
+
+fill-requires : tie.Need-fill-requires
+fill-requires c κs = search needs
+
+array-borrow-prefix-buffer : tie.Need-array-borrow-prefix-buffer
+array-borrow-prefix-buffer c = search needs
+
+slice-aggregate-canonicalize : tie.Need-slice-aggregate-canonicalize
+slice-aggregate-canonicalize c =
+    let s = c .before .before .before .before .before in
+    sym (length-take-le (s .args .len) (c .before .before .fill .last .0) (array-borrow-prefix-buffer (c .before)))
+
+canonicalize-requires : tie.Need-canonicalize-requires
+canonicalize-requires c κs = search needs
+
+-- The whole buffer before the call, how many of its bytes are lent, and the buffer after the call.
+abbrev buffer : tie.After-canonicalize → List ℕ
+buffer c = c .before .before .before .fill .last .0
+
+abbrev lent : tie.After-canonicalize → ℕ
+lent c = c .before .before .before .before .before .before .args .len
+
+whole : (c : tie.After-canonicalize) → length (c .canonicalize .last .1 .0 ++ drop (lent c) (buffer c)) ≡ 32
+whole c =
+    same-len (lent c) (buffer c) (c .canonicalize .last .1 .0) (c .canonicalize .kept .1 .0) ∙ c .before .before .before .fill .ensures .0
+
+slice-aggregate-widen : tie.Need-slice-aggregate-widen
+slice-aggregate-widen c = sym (whole (c .before .before))
+
+slice-aggregate-widen-2 : tie.Need-slice-aggregate-widen-2
+slice-aggregate-widen-2 c = search needs
+
+widen-requires : tie.Need-widen-requires
+widen-requires c κs = omega (arith, whole (c .before .before .before))
+
+slice-aggregate-report : tie.Need-slice-aggregate-report
+slice-aggregate-report c = search needs
+
+slice-aggregate-report-2 : tie.Need-slice-aggregate-report-2
+slice-aggregate-report-2 c = search needs
+
+slice-aggregate-report-3 : tie.Need-slice-aggregate-report-3
+slice-aggregate-report-3 c = search needs
+
+report-requires : tie.Need-report-requires
+report-requires c κs = search needs
+
+returns : tie.Need-returns
+returns c = search needs
+
+pub canonicalize-into-spec : {M : Type 1} → statement M
+canonicalize-into-spec =
+    tie.close
+    (tie.spec
+    slice-aggregate-fill
+    fill-requires
+    array-borrow-prefix-buffer
+    slice-aggregate-canonicalize
+    canonicalize-requires
+    slice-aggregate-widen
+    slice-aggregate-widen-2
+    widen-requires
+    slice-aggregate-report
+    slice-aggregate-report-2
+    slice-aggregate-report-3
+    report-requires
+    returns)
