@@ -7,7 +7,7 @@ use mathlib.Core.Option.{Option, none, some}
 use Prim.Native.Nat.{ℕ, zero, suc, pred, _+_, _-_, _≤_, _<_}
 use native.Mathlib.Omega.{arith}
 use lib.ListN.{length, drop, getD}
-use Rattle.grammar.specs.Bytes.{Bytes}
+use Rattle.grammar.specs.Bytes.{All, Bytes}
 use Rattle.grammar.specs.Token.{Token}
 use Rattle.grammar.specs.Outcome.{passed}
 use Rattle.grammar.specs.Scan.{Placed}
@@ -17,7 +17,7 @@ use Rattle.grammar.specs.Span.{Item, scope, itemTokens, items}
 use Rattle.grammar.specs.Search.{operatorAt}
 use Rattle.grammar.specs.Blocks.{bodyTable, checkBlocks, itemSpans, allItemSpans, spans}
 use Rattle.grammar.specs.Answer.{tokensOf}
-use Rattle.grammar.proofs.Lists.{All, all-left, all-right}
+use Rattle.grammar.proofs.Lists.{all-left, all-right}
 use Rattle.grammar.proofs.ItemLists.{CheckedBy, checkItems-passed}
 use Rattle.grammar.proofs.Declarations.{enter-sound}
 use Rattle.scan.specs.Tokens.{Stored}

@@ -7,26 +7,37 @@ use native.Mathlib.Omega.{arith}
 use lib.Dec.{ltb}
 use lib.ListN.{length, getD}
 use borrow.Author.Tests.{ltb-true, ltb-false, lt-ltb, le-ltb, le-leb, lt-leb}
+use Rattle.grammar.specs.Fault.{longestText, mostTokens}
 use Rattle.grammar.specs.Bytes.{Bytes}
 use Rattle.grammar.specs.Outcome.{Outcome, refused, passed, andThen, placed}
 use Rattle.grammar.specs.Scan.{Placed, scan}
 use Rattle.grammar.specs.Nesting.{nesting}
-use Rattle.grammar.specs.Declaration.{start}
+use Rattle.grammar.specs.Declaration.{startTable}
 use Rattle.grammar.specs.Coded.{tokensFrom}
 use Rattle.grammar.specs.Blocks.{checkBlocks}
-use Rattle.grammar.specs.Answer.{tokensOf, offsetOf, longestText, mostTokens, readText, readTokens}
+use Rattle.grammar.specs.Answer.{tokensOf, offsetOf, readText, readTokens}
+use Rattle.grammar.proofs.Scanned.{length-tokens}
+use Rattle.grammar.proofs.Logic.{impossible}
 use Rattle.grammar.proofs.Operators.{distinct-start, alive-start}
 use Rattle.grammar.proofs.RefusalNumbers.{blocks-number}
 use Rattle.grammar.proofs.RefusalPlaces.{nesting-place, blocks-place}
-use Rattle.grammar.proofs.Readings.{length-tokens}
 use Rattle.scan.specs.Tokens.{Scanning, codedScan}
 use Rattle.scan.specs.declared.tokens.Scanned.{Scanned}
 use Rattle.scan.specs.declared.tokens.Scanned.the-variants as Scan
-use Rattle.scan.proofs.Passed.{scanning-stored, passed-fits, passed-tokens, passed-kinds, passed-starts, passed-front, passed-offset, passed-end}
+use Rattle.scan.proofs.Passed.{
+  scanning-stored,
+  passed-fits,
+  passed-tokens,
+  passed-kinds,
+  passed-starts,
+  passed-front,
+  passed-offset,
+  passed-end,
+}
 use Rattle.nesting.specs.Pairs.{Pairing, codedNesting, tokensBy}
 use Rattle.nesting.specs.declared.Nested.{Nested}
 use Rattle.nesting.specs.declared.Nested.the-variants as Nest
-use Rattle.nesting.proofs.Laws.{nesting-by-kinds}
+use Rattle.nesting.proofs.TokenKinds.{nesting-by-kinds}
 use Rattle.nesting.proofs.PairedTokens.{paired}
 use Rattle.table.specs.Entries.{Starting}
 use Rattle.table.specs.declared.Table as E
@@ -61,11 +72,11 @@ too-long text A L R a l s = refusal text A L R a 1 longestText (rw (lt-leb (leng
 scan-refused : (o : Outcome (List Placed)) (n p : ℕ) → codedScan o ≡ Scan.Refused n p → o ≡ refused n p
 unfolding codedScan
 scan-refused (refused m q) n p e = cc
-scan-refused (passed ps) n p e = let z : _≡_ {A = ℕ} 0 1 = cc in absurd (omega arith)
+scan-refused (passed ps) n p e = impossible cc
 
 scan-passed : (o : Outcome (List Placed)) (n : ℕ) → codedScan o ≡ Scan.Tokens n → (ps : List Placed) × (o ≡ passed ps) × (n ≡ length ps)
 unfolding codedScan
-scan-passed (refused m q) n e = let z : _≡_ {A = ℕ} 0 1 = cc in absurd (omega arith)
+scan-passed (refused m q) n e = impossible cc
 scan-passed (passed ps) n e = (ps, refl, cc)
 
 short-reads : (text : Bytes) → length text ≤ longestText → readText text ≡ andThen (scan mostTokens 0 text) (readTokens text)
@@ -95,11 +106,11 @@ module _ (text : Bytes) (short : length text ≤ longestText) where
 nest-refused : (o : Outcome (Unit {0})) (n p : ℕ) → codedNesting o ≡ Nest.Refused n p → o ≡ refused n p
 unfolding codedNesting
 nest-refused (refused m q) n p e = cc
-nest-refused (passed u) n p e = let z : _≡_ {A = ℕ} 0 1 = cc in absurd (omega arith)
+nest-refused (passed u) n p e = impossible cc
 
 nest-passed : (o : Outcome (Unit {0})) → codedNesting o ≡ Nest.Passed → o ≡ passed tt
 unfolding codedNesting
-nest-passed (refused m q) e = let z : _≡_ {A = ℕ} 0 1 = cc in absurd (omega arith)
+nest-passed (refused m q) e = impossible cc
 nest-passed (passed u) e = refl
 
 -- The offset of a token, and of what stands behind the last one.
@@ -174,9 +185,9 @@ module _ {text : Bytes} {K S Z C : List ℕ} {n : ℕ} (m : Matched text K S Z C
       (g : Resolve.Resolved text K S Z 0 n e P I Q N P′ I′ Q′ N′ r)
     where
       abbrev blocks : Outcome (Unit {0})
-      blocks = checkBlocks (suc (length own)) start 0 (tokensOf own)
+      blocks = checkBlocks (suc (length own)) startTable 0 (tokensOf own)
 
-      resolving : Resolve.Resolving (suc (length own)) start 0 (tokensOf own) P I Q N P′ I′ Q′ N′ r blocks
+      resolving : Resolve.Resolving (suc (length own)) startTable 0 (tokensOf own) P I Q N P′ I′ Q′ N′ r blocks
       resolving = rw (h .table text, own-tokens) at (g (suc (length own)) (omega (arith, m .scanned .counted)))
 
       blocks-reads : (k p : ℕ) → blocks ≡ refused k p → readText text ≡ refused k (offsetOf text own p)
@@ -188,9 +199,9 @@ module _ {text : Bytes} {K S Z C : List ℕ} {n : ℕ} (m : Matched text K S Z C
           (A : Arrays) (L R : List ℕ) (a : Analysis) → (r .number ≡ 0 → ⊥) → Says a (r .number) (offsetIn text S n (r .at)) → Analysed text A L R a
       not-resolved A L R a f s = go blocks refl resolving
         where
-          go : (o : Outcome (Unit {0})) → blocks ≡ o → Resolve.Resolving (suc (length own)) start 0 (tokensOf own) P I Q N P′ I′ Q′ N′ r o → Analysed text A L R a
+          go : (o : Outcome (Unit {0})) → blocks ≡ o → Resolve.Resolving (suc (length own)) startTable 0 (tokensOf own) P I Q N P′ I′ Q′ N′ r o → Analysed text A L R a
           go (refused k p) b v =
-              let l = blocks-place (suc (length own)) start (tokensOf own) k p (m .nested) b in
+              let l = blocks-place (suc (length own)) startTable (tokensOf own) k p (m .nested) b in
               refusal text A L R a k (offsetOf text own p) (blocks-reads k p b) (
                 s .0 ∙ v .0,
                 s .1 ∙ ap (offsetIn text S n) (v .1) ∙ offset-in (m .scanned) p (omega (arith, m .scanned .counted, length-tokens own)),
@@ -206,15 +217,15 @@ module _ {text : Bytes} {K S Z C : List ℕ} {n : ℕ} (m : Matched text K S Z C
           few = passed-fits (m .scanned .stored)
 
           go :
-              (o : Outcome (Unit {0})) → blocks ≡ o → Resolve.Resolving (suc (length own)) start 0 (tokensOf own) P I Q N P′ I′ Q′ N′ r o
+              (o : Outcome (Unit {0})) → blocks ≡ o → Resolve.Resolving (suc (length own)) startTable 0 (tokensOf own) P I Q N P′ I′ Q′ N′ r o
               → Resolved text (arrays K S Z C P′ I′ Q′) N′ n
-          go (refused k p) b v = absurd (omega (arith, v .0, blocks-number (suc (length own)) start 0 (tokensOf own) k p b))
+          go (refused k p) b v = absurd (omega (arith, v .0, blocks-number (suc (length own)) startTable 0 (tokensOf own) k p b))
           go (passed u) b v =
               record {
                 matched = m;
                 declared = b;
                 agrees =
                     rw (m .scanned .counted)
-                    (agreement (arrays K S Z C P′ I′ Q′) text N′ own start P I Q N (m .scanned .stored) (rw (m .scanned .counted) at (m .paired))
+                    (agreement (arrays K S Z C P′ I′ Q′) text N′ own startTable P I Q N (m .scanned .stored) (rw (m .scanned .counted) at (m .paired))
                     (omega (arith, few)) (omega (arith, few)) (omega (arith, few)) (omega (arith, few)) b (v .1) (v .2) (v .3) (v .4));
               }

@@ -7,16 +7,17 @@ use native.Mathlib.Omega.{arith}
 use lib.ListN.{length, getD}
 use borrow.Author.Tests.{eq-eqb}
 use Rattle.grammar.specs.Bytes.{Bytes}
-use Rattle.grammar.specs.Outcome.{passed}
+use Rattle.grammar.specs.Outcome.{refused, passed}
 use Rattle.grammar.specs.Scan.{Placed}
-use Rattle.grammar.specs.Declaration.{start}
+use Rattle.grammar.specs.Declaration.{startTable}
 use Rattle.grammar.specs.Tree.{Tree}
-use Rattle.grammar.specs.Blocks.{spans, firstWithout, treeIn, treeOf}
-use Rattle.grammar.specs.Answer.{Past, tokensOf, offsetOf, spanOffset, found, readSpans, readText}
-use Rattle.grammar.specs.Claim.{spansOf}
+use Rattle.grammar.specs.Blocks.{spans, firstWithout, treelessOpener, treeIn, treeOf}
+use Rattle.grammar.specs.Nodes.{count}
+use Rattle.grammar.specs.Answer.{PastChecks, tokensOf, offsetOf, spanOffset, readSpans, readText, spansOf}
+use Rattle.grammar.proofs.Scanned.{length-tokens}
+use Rattle.grammar.proofs.Logic.{impossible}
 use Rattle.grammar.proofs.NodeCount.{contentsTotal, node-count}
-use Rattle.grammar.proofs.Spans.{firstWithout-none, spans-hang}
-use Rattle.grammar.proofs.Readings.{length-tokens, past-reads, nested-tokens}
+use Rattle.grammar.proofs.Readings.{past-reads, spans-pass, spans-refuse}
 use Rattle.nesting.proofs.PairedClosers.{closed}
 use Rattle.scan.proofs.Passed.{passed-kind, passed-spelled, passed-bytes, passed-quoted, passed-offset, passed-ascend}
 use Rattle.tree.specs.Built.{slotOfToken}
@@ -27,7 +28,7 @@ use Rattle.spans.specs.declared.Spans.the-variants.{Trees, NoTree, NoTreeBehind
 use Rattle.analysis.specs.declared.Analysis.{Analysis}
 use Rattle.analysis.specs.Analysed.{Tokenized, Matched, Resolved, Ready, offsetIn, Analysed}
 use Rattle.spans.proofs.Agreed.{judged, spans-judged, coded-without, coded-with}
-use Rattle.spans.proofs.Steps.{behind-opener}
+use Rattle.spans.proofs.SpanChecks.{behind-opener}
 use Rattle.spans.proofs.Roots.{roots-same, roots-noted}
 use Rattle.analysis.proofs.Stages.{Says, refusal, few-tokens, offset-in, own-tokens}
 
@@ -52,13 +53,13 @@ module _ {text : Bytes} {A : Arrays} {L : List ℕ} {n : ℕ} (v : Resolved text
   abbrev ps : List Placed
   ps = own .placed
 
-  past : Past text ps
+  past : PastChecks text ps
   past = record { short = own .short; scanned = own .stored .scanned; nested = v .matched .nested; declared = v .declared }
 
   own-spans : map judged (spansOf ps) ≡ judgedSpans A n
   own-spans =
-      ap (λ ts. map judged (spans (suc (length ps)) start none 0 ts)) (sym (own-tokens (v .matched)))
-      ∙ spans-judged A text L (suc (length ps)) start n (v .agrees) (omega (arith, own .counted))
+      ap (λ ts. map judged (spans (suc (length ps)) startTable none 0 ts)) (sym (own-tokens (v .matched)))
+      ∙ spans-judged A text L (suc (length ps)) startTable n (v .agrees) (omega (arith, own .counted))
 
   -- The span without a tree, as the check answers it.
   without : (o : Option ℕ) → firstWithout (spansOf ps) ≡ some o → checked A n ≡ codedOpener o
@@ -68,17 +69,21 @@ module _ {text : Bytes} {A : Arrays} {L : List ℕ} {n : ℕ} (v : Resolved text
   with f = checked-same A n ∙ ap (codedSpans 0) (sym own-spans) ∙ coded-with (spansOf ps) 0 f ∙ ap Trees (omega arith)
 
   refuses : (R : List ℕ) (a : Analysis) (o : Option ℕ) → firstWithout (spansOf ps) ≡ some o → Says a 11 (spanOffset text ps o) → Analysed text A L R a
-  unfolding readSpans
-  refuses R a o f s = refusal text A L R a 11 (spanOffset text ps o) (past-reads text ps past ∙ ap (readSpans text ps) f) s
+  unfolding readSpans treelessOpener
+  refuses R a o f s =
+      refusal text A L R a 11 (spanOffset text ps o)
+      (past-reads text ps past ∙ ap (readSpans text ps) (spans-refuse ps o f)
+      ∙ ap (λ w. refused 11 (spanOffset text ps w)) (rw (f, treelessOpener)))
+      s
 
   pub no-tree : (R : List ℕ) (a : Analysis) → checked A n ≡ NoTree → Says a 11 0 → Analysed text A L R a
   unfolding codedOpener spanOffset
   no-tree R a e s = go (firstWithout (spansOf ps)) refl
     where
       go : (o : Option (Option ℕ)) → firstWithout (spansOf ps) ≡ o → Analysed text A L R a
-      go none f = let z = sym (with f) ∙ e in let y : _≡_ {A = ℕ} 0 1 = cc in absurd (omega arith)
+      go none f = let z = sym (with f) ∙ e in impossible cc
       go (some none) f = refuses R a none f s
-      go (some (some j)) f = let z = sym (without (some j) f) ∙ e in let y : _≡_ {A = ℕ} 0 1 = cc in absurd (omega arith)
+      go (some (some j)) f = let z = sym (without (some j) f) ∙ e in impossible cc
 
   pub no-tree-behind :
       (R : List ℕ) (a : Analysis) (i : ℕ) → checked A n ≡ NoTreeBehind i → Says a 11 (offsetIn text (A .starts) n i) → Analysed text A L R a
@@ -86,26 +91,24 @@ module _ {text : Bytes} {A : Arrays} {L : List ℕ} {n : ℕ} (v : Resolved text
   no-tree-behind R a i e s = go (firstWithout (spansOf ps)) refl
     where
       go : (o : Option (Option ℕ)) → firstWithout (spansOf ps) ≡ o → Analysed text A L R a
-      go none f = let z = sym (with f) ∙ e in let y : _≡_ {A = ℕ} 0 1 = cc in absurd (omega arith)
-      go (some none) f = let z = sym (without none f) ∙ e in let y : _≡_ {A = ℕ} 0 1 = cc in absurd (omega arith)
+      go none f = let z = sym (with f) ∙ e in impossible cc
+      go (some none) f = let z = sym (without none f) ∙ e in impossible cc
       go (some (some j)) f =
           let z : NoTreeBehind j ≡ NoTreeBehind i = sym (without (some j) f) ∙ e in
           let y : j ≡ i = cc in
           let l = behind-opener A n i (sym (checked-same A n) ∙ e) in
           refuses R a (some j) f (s .0, s .1 ∙ offset-in own i (omega arith) ∙ ap (offsetOf text ps) (sym y))
 
-  -- All spans have trees, so the text has one.
-  tree : firstWithout (spansOf ps) ≡ none → (t : Tree) × (treeIn (suc (length ps)) start (tokensOf ps) ≡ some t)
-  tree f =
-      spans-hang (suc (length ps)) start none 0 (tokensOf ps) (nested-tokens text ps past) (omega (arith, length-tokens ps))
-      (firstWithout-none (spansOf ps) f)
+  -- A text with a tree is read, and has as many nodes as are counted in its spans.
+  reads : (t : Tree) → treeOf startTable (tokensOf ps) ≡ some t → readText text ≡ passed (record { tokens = ps; tree = t })
+  unfolding readSpans
+  reads t e = past-reads text ps past ∙ ap (readSpans text ps) e
 
-  reads : (t : Tree) → firstWithout (spansOf ps) ≡ none → treeIn (suc (length ps)) start (tokensOf ps) ≡ some t
-      → readText text ≡ passed (record { tokens = ps; tree = t })
-  unfolding readSpans found treeOf
-  reads t f e =
-      past-reads text ps past ∙ ap (readSpans text ps) f
-      ∙ ap (found ps) (ap (λ k. treeIn (suc k) start (tokensOf ps)) (length-tokens ps) ∙ e)
+  counts : (t : Tree) → treeOf startTable (tokensOf ps) ≡ some t → count t ≡ contentsTotal (spansOf ps)
+  unfolding treeOf
+  counts t e =
+      node-count (suc (length ps)) startTable none 0 (tokensOf ps) t
+      (ap (λ k. treeIn (suc k) startTable (tokensOf ps)) (sym (length-tokens ps)) ∙ e)
 
   ready :
       (t : Tree) (R R₀ : List ℕ) (m : ℕ) → checked A n ≡ Trees m → length R₀ ≡ 1024 → R ≡ textRoots (seen A) n R₀
@@ -141,10 +144,9 @@ module _ {text : Bytes} {A : Arrays} {L : List ℕ} {n : ℕ} (v : Resolved text
     where
       go : (o : Option (Option ℕ)) → firstWithout (spansOf ps) ≡ o → Analysed text A L R a
       go none f =
-          let t = tree f in
+          let t = spans-pass text ps past f in
           let w : Trees (contentsTotal (spansOf ps)) ≡ Trees m = sym (with f) ∙ e in
           let u : contentsTotal (spansOf ps) ≡ m = cc in
-          rw (reads (t .0) f (t .1))
-          (x, z ∙ sym u ∙ sym (node-count (suc (length ps)) start none 0 (tokensOf ps) (t .0) (t .1)), rw y (ready (t .0) R R₀ m e l k))
-      go (some none) f = let w = sym (without none f) ∙ e in let u : _≡_ {A = ℕ} 0 1 = cc in absurd (omega arith)
-      go (some (some j)) f = let w = sym (without (some j) f) ∙ e in let u : _≡_ {A = ℕ} 0 1 = cc in absurd (omega arith)
+          rw (reads (t .0) (t .1)) (x, z ∙ sym u ∙ sym (counts (t .0) (t .1)), rw y (ready (t .0) R R₀ m e l k))
+      go (some none) f = let w = sym (without none f) ∙ e in impossible cc
+      go (some (some j)) f = let w = sym (without (some j) f) ∙ e in impossible cc

@@ -5,16 +5,17 @@ use mathlib.Core.List.{List, []}
 use Prim.Native.Nat.{ℕ, suc, _≤_, _<_}
 use lib.Dec.{ltb}
 use lib.ListN.{length, take, drop, getD}
+use Rattle.grammar.specs.Fault.{longestText}
 use Rattle.grammar.specs.Bytes.{Bytes}
 use Rattle.grammar.specs.Token.{spelling}
 use Rattle.grammar.specs.Outcome.{Outcome, refused, passed}
 use Rattle.grammar.specs.Scan.{Placed}
 use Rattle.grammar.specs.Nesting.{nesting}
-use Rattle.grammar.specs.Declaration.{start}
+use Rattle.grammar.specs.Declaration.{startTable}
 use Rattle.grammar.specs.Coded.{kindOf}
 use Rattle.grammar.specs.Blocks.{checkBlocks}
 use Rattle.grammar.specs.Nodes.{count}
-use Rattle.grammar.specs.Answer.{Reading, tokensOf, offsetOf, longestText, readText}
+use Rattle.grammar.specs.Answer.{Reading, tokensOf, offsetOf, readText}
 use Rattle.scan.specs.Tokens.{Stored}
 use Rattle.nesting.specs.Paired.{Paired}
 use Rattle.node.specs.NodeWords.{Arrays}
@@ -39,8 +40,8 @@ pub record Matched (text : Bytes) (K S Z C : List ℕ) (n : ℕ) : Type 0 where
 -- After checks 8 to 10: and the numbers of the roles in force, and (`L`) which quoted names are operators.
 pub record Resolved (text : Bytes) (A : Arrays) (L : List ℕ) (n : ℕ) : Type 0 where
   pub matched : Matched text (A .kinds) (A .starts) (A .sizes) (A .closes) n
-  pub declared : checkBlocks (suc (length (matched .scanned .placed))) start 0 (tokensOf (matched .scanned .placed)) ≡ passed tt
-  pub agrees : Agrees A text L start 0 n
+  pub declared : checkBlocks (suc (length (matched .scanned .placed))) startTable 0 (tokensOf (matched .scanned .placed)) ≡ passed tt
+  pub agrees : Agrees A text L startTable 0 n
 
 -- The arrays of a text that is read: its tokens with their offsets and bytes, the numbers of the roles in force, which quoted names are
 -- operators (`L`), and the root of what each bracket pair holds (`R`).
@@ -49,12 +50,12 @@ pub record Ready (text : Bytes) (A : Arrays) (L R : List ℕ) (n : ℕ) (r : Rea
   pub few : n ≤ 1024
   pub tokens : tokens A text 0 n ≡ tokensOf (r .tokens)
   pub starts : (j : ℕ) → j < n → getD (A .starts) j 0 ≡ offsetOf text (r .tokens) j
-  pub placed : Building.Placed A 0 n
+  pub placed : Building.RangeStands A 0 n
   pub kinds : (j : ℕ) → j < n → getD (A .kinds) j 0 ≡ kindOf (token A text j)
   pub spelled : (j : ℕ) → j < n → take (getD (A .sizes) j 0) (drop (getD (A .starts) j 0) text) ≡ spelling (token A text j)
   pub sized : (j : ℕ) → j < n → 1 ≤ getD (A .sizes) j 0
   pub roots : (j : ℕ) → j < n → getD (A .kinds) j 0 ≡ 4 → getD R j 0 ≡ spanRoot A (suc j) (getD (A .closes) j 0)
-  pub agrees : Agrees A text L start 0 n
+  pub agrees : Agrees A text L startTable 0 n
 
 -- The offset of token number `i` by the arrays; behind the last token stands the end of the text.
 unfoldable pub offsetIn : Bytes → List ℕ → ℕ → ℕ → ℕ

@@ -32,6 +32,7 @@ use Rattle.grammar.specs.SpanTree.{
   present,
   fixityBy,
   fixity,
+  roleOver,
   root,
   rootPrecedence,
   isLeft,
@@ -45,7 +46,7 @@ use Rattle.grammar.specs.SpanTree.{
 use Rattle.grammar.specs.Canonical.{refuses}
 use Rattle.grammar.specs.Coded.{roleCode, roleOf}
 use Rattle.grammar.proofs.Logic.{and-right, clash}
-use Rattle.grammar.proofs.SpanRoot.{Placed, placed}
+use Rattle.grammar.proofs.SpanRoot.{AdmittingRole, admitting-role, admitting-root}
 use Rattle.search.specs.Slots.{operatorSlot, positionOf, admitsCode}
 use Rattle.search.proofs.Roles.{role-none, role-precedence, equalAdmitted, admits-none, admits-lower, admits-higher, admits-same}
 use Rattle.search.proofs.ItemSlots.{role-coded}
@@ -221,15 +222,15 @@ module _ (T : Table) (conditions : Conditions T) (l : SpanTree) (m : Bytes) (r :
   numberOn side = roleBeside 1 (roleCode (role T m Infix)) (roleCode (role T m (oneSided side)))
 
   -- The number of the role in use: it admits both operands.
-  place : Placed T l m r
-  place = placed T l m r admitted
+  place : AdmittingRole T l m r
+  place = admitting-role T l m r admitted
 
   own : ℕ
   own = roleCode (some (place .own))
 
   root-own : roleCode (root T (apply l m r)) ≡ own
   unfolding root own
-  root-own = ap roleCode (place .known)
+  root-own = ap roleCode (admitting-root place)
 
   own-admits : (side : Bool) → admitsCode side own (roleCode (root T (operandOn side))) ≡ true
   unfolding own positionOf
@@ -241,34 +242,34 @@ module _ (T : Table) (conditions : Conditions T) (l : SpanTree) (m : Bytes) (r :
       go false = place .leftFits
 
   -- With an operand on a side, an operator is infix or of the fixity with that operand alone.
-  fixity-on : (side : Bool) → present (operandOn side) ≡ true → (fixity l r ≡ Infix) ⊎ (fixity l r ≡ oneSided side)
+  fixity-on : (side : Bool) → present (operandOn side) ≡ true → (place .form ≡ Infix) ⊎ (place .form ≡ oneSided side)
   unfolding fixity fixityBy
-  fixity-on true e = rw e (go (present l))
+  fixity-on true e = go (present l) refl
     where
-      go : (t : Bool) → (fixityBy t true ≡ Infix) ⊎ (fixityBy t true ≡ Prefix)
-      go true = inl refl
-      go false = inr refl
-  fixity-on false e = rw e (go (present r))
+      go : (t : Bool) → present l ≡ t → (place .form ≡ Infix) ⊎ (place .form ≡ Prefix)
+      go true p = let z : some Infix ≡ some (place .form) = rw (p, e) at (place .formed) in inl cc
+      go false p = let z : some Prefix ≡ some (place .form) = rw (p, e) at (place .formed) in inr cc
+  fixity-on false e = go (present r) refl
     where
-      go : (t : Bool) → (fixityBy true t ≡ Infix) ⊎ (fixityBy true t ≡ Postfix)
-      go true = inl refl
-      go false = inr refl
+      go : (t : Bool) → present r ≡ t → (place .form ≡ Infix) ⊎ (place .form ≡ Postfix)
+      go true p = let z : some Infix ≡ some (place .form) = rw (e, p) at (place .formed) in inl cc
+      go false p = let z : some Postfix ≡ some (place .form) = rw (e, p) at (place .formed) in inr cc
 
   module _ (side : Bool) (there : present (operandOn side) ≡ true) where
     number-alike : Alike side own (numberOn side)
     unfolding own
-    number-alike = alike-beside (role T m) (conditions m) side (fixity l r) (place .own) (place .known) (fixity-on side there)
+    number-alike = alike-beside (role T m) (conditions m) side (place .form) (place .own) (place .known) (fixity-on side there)
 
     -- Seen from its operand, an operator admits it, and refuses what its role in use refuses.
     number-admits : admitsCode side (numberOn side) (roleCode (root T (operandOn side))) ≡ true
     number-admits = number-alike .sameAdmitted (roleCode (root T (operandOn side))) ∙ own-admits side
 
     number-refuses :
-        (o : Option Role) → not (admitsCode side (numberOn side) (roleCode o)) ≡ refuses (positionOf side) (role T m (fixity l r)) o
+        (o : Option Role) → not (admitsCode side (numberOn side) (roleCode o)) ≡ refuses (positionOf side) (roleOver T l m r) o
     unfolding own refuses
     number-refuses o =
         ap not (number-alike .sameAdmitted (roleCode o) ∙ code-admits (place .own) side (roleCode o))
-        ∙ rw (role-coded o, place .known)
+        ∙ rw (role-coded o, admitting-root place)
 
   pub left-behind : present l ≡ true → Behind (leftward T m) (root T l)
   unfolding operatorSlot
@@ -291,7 +292,7 @@ module _ (T : Table) (conditions : Conditions T) (l : SpanTree) (m : Bytes) (r :
     left-before = before-lower (roleCode (root T l)) (admits-le false own (roleCode (root T l)) (own-admits false))
 
     pub left-decided :
-        present l ≡ true → (o : Option Role) → isNeeded b (leftward T m) (roleCode o) ≡ refuses onLeft (role T m (fixity l r)) o
+        present l ≡ true → (o : Option Role) → isNeeded b (leftward T m) (roleCode o) ≡ refuses onLeft (roleOver T l m r) o
     unfolding operatorSlot positionOf
     left-decided there o =
         let alike = number-alike false there in
@@ -310,7 +311,7 @@ module _ (T : Table) (conditions : Conditions T) (l : SpanTree) (m : Bytes) (r :
             inr (admits-lower false a (roleCode (root T r)) higher)
 
     pub right-decided :
-        present r ≡ true → (o : Option Role) → isNeeded (rightward T m) a (roleCode o) ≡ refuses onRight (role T m (fixity l r)) o
+        present r ≡ true → (o : Option Role) → isNeeded (rightward T m) a (roleCode o) ≡ refuses onRight (roleOver T l m r) o
     unfolding operatorSlot positionOf
     right-decided there o =
         by-before (numberOn true) a (roleCode o) (number-alike true there .nonzero) (go behind) ∙ number-refuses true there o

@@ -1,3 +1,3 @@
 pub mod Decided
 pub mod Places
-pub mod Turns
+pub mod BracketLoop

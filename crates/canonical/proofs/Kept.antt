@@ -11,16 +11,30 @@ use lib.Dec.{ltb, eqb}
 use lib.ListN.{length, take, drop, getD, length-append}
 use borrow.Author.Tests.{eq-eqb, ne-eqb, eqb-true, lt-ltb, le-ltb}
 use Rattle.grammar.specs.Bytes.{Bytes}
-use Rattle.grammar.specs.Token.{Token, symbol, number, opening, closing, keywordLet, keywordIn, keywordEnd, spelling, areTokens}
-use Rattle.grammar.specs.Operator.{Role, Table, role, Conditions}
+use Rattle.grammar.specs.Token.{
+  structureNumber,
+  atom,
+  structure,
+  Token,
+  symbol,
+  opening,
+  closing,
+  keywordLet,
+  keywordIn,
+  keywordEnd,
+  spelling,
+  areTokens,
+  Structure,
+}
+use Rattle.grammar.specs.Operator.{Role, Table, Conditions}
 use Rattle.grammar.specs.Declaration.{Declaration, declareAll, allTokens}
-use Rattle.grammar.specs.Coded.{kindOf, tokenOf, tokensFrom, roleCode}
-use Rattle.grammar.specs.SpanTree.{Position, onLeft, onRight, present, fixity, root, admits, isOperand, Admitted}
-use Rattle.grammar.specs.Tree.{Tree, nothing, leaf, bracket, block, node, flat, spanTree, InnerOk}
+use Rattle.grammar.specs.Coded.{kindOf, tokensFrom, roleCode, tokenAt}
+use Rattle.grammar.specs.SpanTree.{Position, onLeft, onRight, present, root, admits, isOperand, Admitted, roleOver}
+use Rattle.grammar.specs.Tree.{Tree, nothing, leaf, bracket, block, node, flat, spanTree}
 use Rattle.grammar.specs.Canonical.{stripDeclaration, fitted, canonical, refuses}
-use Rattle.grammar.specs.Nodes.{characters}
+use Rattle.grammar.proofs.CheckedTrees.{InnerChecked}
 use Rattle.grammar.proofs.Logic.{clash}
-use Rattle.grammar.proofs.Offsets.{token-coded}
+use Rattle.grammar.proofs.Offsets.{structure-coded}
 use Rattle.grammar.proofs.Positive.{Positive}
 use Rattle.grammar.proofs.Operators.{positive-declared}
 use Rattle.grammar.proofs.CanonicalTokens.{leaf-token, inside-tokens, block-tokens, node-tokens}
@@ -33,10 +47,6 @@ use Rattle.brackets.proofs.Decided.{leftward, rightward, left-before, left-behi
 use Rattle.pieces.specs.Joined.{piecesFrom}
 use Rattle.canonical.specs.Standing.{OperatorAt, At}
 use Rattle.canonical.proofs.Pieces.{pieces-join, declare-tokens, declare-written, left-out, structure-kept, leaf-kept, stretch-kept}
-
--- A token of structure by the number of its kind.
-by-kind : (t : Token) (k : ℕ) → kindOf t ≡ k → t ≡ tokenOf k (characters t)
-by-kind t k e = sym (token-coded t) ∙ ap (λ j. tokenOf j (characters t)) e
 
 spellings : (xs ys : List Token) → map spelling (xs ++ ys) ≡ map spelling xs ++ map spelling ys
 spellings [] ys = refl
@@ -75,16 +85,16 @@ wrap-fitted T s (some r) t b e = go (admits s r (root T (spanTree t))) refl
 -- How many tokens a bracket pair and an operator's tree have.
 bracket-length : (t : Tree) → length (flat (bracket t)) ≡ suc (suc (length (flat t)))
 unfolding flat
-bracket-length t = omega (arith, length-append (flat t) (closing ∷ []))
+bracket-length t = omega (arith, length-append (flat t) (structure closing ∷ []))
 
 node-length : (l : Tree) (m : Bytes) (r : Tree) → length (flat (node l m r)) ≡ length (flat l) + suc (length (flat r))
 unfolding flat
-node-length l m r = length-append (flat l) (symbol m ∷ flat r)
+node-length l m r = length-append (flat l) (atom (symbol m) ∷ flat r)
 
 block-length : (ds : List Declaration) (t : Tree) → length (flat (block ds t)) ≡ suc (suc (length (allTokens ds) + suc (length (flat t))))
 unfolding flat
 block-length ds t =
-    omega (arith, length-append (allTokens ds ++ keywordIn ∷ flat t) (keywordEnd ∷ []), length-append (allTokens ds) (keywordIn ∷ flat t))
+    omega (arith, length-append (allTokens ds ++ structure keywordIn ∷ flat t) (structure keywordEnd ∷ []), length-append (allTokens ds) (structure keywordIn ∷ flat t))
 
 -- What has no bracket pair at its root keeps its root.
 isPair : Tree → Bool
@@ -94,7 +104,7 @@ isPair (bracket t) = true
 isPair (block ds t) = false
 isPair (node l m r) = false
 
-root-kept : (T : Table) (t : Tree) → Positive T → InnerOk T t → isPair t ≡ false → root T (spanTree (canonical T t)) ≡ root T (spanTree t)
+root-kept : (T : Table) (t : Tree) → Positive T → InnerChecked T t → isPair t ≡ false → root T (spanTree (canonical T t)) ≡ root T (spanTree t)
 unfolding canonical spanTree root isPair
 root-kept T nothing p i e = refl
 root-kept T (leaf t) p i e = refl
@@ -114,6 +124,11 @@ module _
 
     abbrev kind : ℕ → ℕ
     kind i = getD (A .kinds) i 0
+
+    -- A token of structure by its kind.
+    is-structure : (i : ℕ) (s : Structure) → kind i ≡ kindOf (structure s) → token A text i ≡ structure s
+    unfolding tokenAt
+    is-structure i s e = rw e (structure-coded s _)
 
     -- The operators before token `i` and at token `e`, as they are seen from between.
     abbrev before : ℕ → ℕ
@@ -189,12 +204,12 @@ module _
         go true e = rw (e, ne-eqb (suc (getD (A .closes) (suc i) 0)) (getD (A .closes) i 0) (f (eqb-true (kind (suc i)) 4 e)))
         go false e = rw e
 
-    effective : (T : Table) (i : ℕ) (t : Tree) → Positive T → i < n → At A text L R T i (bracket t) → InnerOk T (bracket t) → isPair t ≡ false
+    effective : (T : Table) (i : ℕ) (t : Tree) → Positive T → i < n → At A text L R T i (bracket t) → InnerChecked T (bracket t) → isPair t ≡ false
         → (kind (suc i) ≡ 4 → suc (getD (A .closes) (suc i) 0) ≡ getD (A .closes) i 0 → ⊥)
         → getD R′ i 0 ≡ roleCode (root T (spanTree (canonical T t)))
     effective T i t p l h o e f = seen-here i l (h .0) (holds-other i f) ∙ h .3 ∙ ap roleCode (sym (root-kept T t p (o .1) e))
 
-    pair-root : (T : Table) (i : ℕ) (t : Tree) → Positive T → i + suc (length (flat t)) < n → At A text L R T i (bracket t) → InnerOk T (bracket t)
+    pair-root : (T : Table) (i : ℕ) (t : Tree) → Positive T → i + suc (length (flat t)) < n → At A text L R T i (bracket t) → InnerChecked T (bracket t)
         → getD R′ i 0 ≡ roleCode (root T (spanTree (canonical T t)))
     unfolding canonical isPair present spanTree holdsPair
     pair-root T i nothing p l h o = absurd (clash (o .0 .1) refl)
@@ -246,7 +261,7 @@ module _
 
     -- An operand on a side of an operator in the role `o`, which admits it.
     operand-kept :
-        (T : Table) (s : Position) (o : Option Role) (i : ℕ) (t : Tree) → Positive T → At A text L R T i t → InnerOk T t → i + length (flat t) ≤ n
+        (T : Table) (s : Position) (o : Option Role) (i : ℕ) (t : Tree) → Positive T → At A text L R T i t → InnerChecked T t → i + length (flat t) ≤ n
         → refuses s o (root T (spanTree t)) ≡ false
         → (present (spanTree t) ≡ true → (x : Option Role) → isNeeded (before i) (after (i + length (flat t))) (roleCode x) ≡ refuses s o x)
         → keptAt i t ≡ refuses s o (root T (spanTree (canonical T t)))
@@ -265,10 +280,10 @@ module _
     abbrev Written : Table → ℕ → Tree → Type 0
     Written T i t = pieces i (length (flat t)) ≡ map spelling (flat (wrapIf (keptAt i t) (canonical T t)))
 
-    structure :
+    one-kept :
         (i : ℕ) → i < n → (t : Token) → token A text i ≡ t → (kindOf t ≡ 2 → ⊥) → (kindOf t ≡ 3 → ⊥)
         → getD Z′ i 0 ≡ getD (A .sizes) i 0 → pieces i 1 ≡ spelling t ∷ []
-    structure = structure-kept A text L Z′ n kinds spelled sized
+    one-kept = structure-kept A text L Z′ n kinds spelled sized
 
     -- A stretch of tokens with one behind it, and with one on each side.
     around : (i a b : ℕ) → pieces i (a + suc b) ≡ pieces i a ++ (pieces (i + a) 1 ++ pieces (suc (i + a)) b)
@@ -296,19 +311,19 @@ module _
       in-range : (i < n) × (end < n)
       in-range = (omega (arith, bracket-length t), omega (arith, bracket-length t))
 
-      is-opening : token A text i ≡ opening
-      unfolding tokenOf
-      is-opening = by-kind (token A text i) 4 (sym (kinds i (in-range .0)) ∙ h .0)
+      is-opening : token A text i ≡ structure opening
+      unfolding kindOf structureNumber
+      is-opening = is-structure i opening (h .0)
 
-      is-closing : token A text end ≡ closing
-      unfolding tokenOf
-      is-closing = by-kind (token A text end) 5 (sym (kinds end (in-range .1)) ∙ h .2)
+      is-closing : token A text end ≡ structure closing
+      unfolding kindOf structureNumber
+      is-closing = is-structure end closing (h .2)
 
-      brackets-stay : staysAt i ≡ true → (pieces i 1 ≡ spelling opening ∷ []) × (pieces end 1 ≡ spelling closing ∷ [])
-      unfolding keptSize kindOf
+      brackets-stay : staysAt i ≡ true → (pieces i 1 ≡ spelling (structure opening) ∷ []) × (pieces end 1 ≡ spelling (structure closing) ∷ [])
+      unfolding keptSize kindOf structureNumber
       brackets-stay q = (
-        structure i (in-range .0) opening is-opening (λ e. omega arith) (λ e. omega arith) (left .openers i (in-range .0) (h .0) ∙ rw q),
-        structure end (in-range .1) closing is-closing (λ e. omega arith) (λ e. omega arith)
+        one-kept i (in-range .0) (structure opening) is-opening (λ e. omega arith) (λ e. omega arith) (left .openers i (in-range .0) (h .0) ∙ rw q),
+        one-kept end (in-range .1) (structure closing) is-closing (λ e. omega arith) (λ e. omega arith)
             (ap (λ j. getD Z′ j 0) (sym (h .1)) ∙ left .closers i (in-range .0) (h .0) ∙ rw q (ap (λ j. getD (A .sizes) j 0) (h .1))),
       )
 
@@ -332,24 +347,24 @@ module _
             → pieces i 1 ++ (pieces (suc i) (length (flat t)) ++ pieces (suc (i + length (flat t))) 1) ≡ map spelling (flat (wrapIf (staysAt i) (canonical T t)))
         go true q =
             let b = brackets-stay T i t l h q in
-            rw (q, b .0, b .1, w) (ap (_∷_ (spelling opening)) (sym (spellings (flat (canonical T t)) (closing ∷ []))))
+            rw (q, b .0, b .1, w) (ap (_∷_ (spelling (structure opening))) (sym (spellings (flat (canonical T t)) (structure closing ∷ []))))
         go false q = let b = brackets-out T i t l h q in rw (q, b .0, b .1, w) (append-none (map spelling (flat (canonical T t))))
 
     -- An operator over its operands.
     node-written :
         (T : Table) (i : ℕ) (x : Tree) (m : Bytes) (y : Tree) → i + length (flat (node x m y)) ≤ n → At A text L R T i (node x m y)
-        → pieces i (length (flat x)) ≡ map spelling (flat (fitted T onLeft (role T m (fixity (spanTree x) (spanTree y))) (canonical T x)))
-        → pieces (suc (i + length (flat x))) (length (flat y)) ≡ map spelling (flat (fitted T onRight (role T m (fixity (spanTree x) (spanTree y))) (canonical T y)))
+        → pieces i (length (flat x)) ≡ map spelling (flat (fitted T onLeft (roleOver T (spanTree x) m (spanTree y)) (canonical T x)))
+        → pieces (suc (i + length (flat x))) (length (flat y)) ≡ map spelling (flat (fitted T onRight (roleOver T (spanTree x) m (spanTree y)) (canonical T y)))
         → Written T i (node x m y)
     unfolding canonical keptAt wrapIf flat kindOf
     node-written T i x m y l h v w =
         let e = i + length (flat x) in
         let k : e < n = omega (arith, node-length x m y) in
-        let r = role T m (fixity (spanTree x) (spanTree y)) in
-        let o : pieces e 1 ≡ spelling (symbol m) ∷ [] =
-        structure e k (symbol m) (h .1 .1) (λ z. omega arith) (λ z. omega arith) (left .others e k (λ z. omega (arith, h .1 .0)) (λ z. omega (arith, h .1 .0))) in
+        let r = roleOver T (spanTree x) m (spanTree y) in
+        let o : pieces e 1 ≡ spelling (atom (symbol m)) ∷ [] =
+        one-kept e k (atom (symbol m)) (h .1 .1) (λ z. omega arith) (λ z. omega arith) (left .others e k (λ z. omega (arith, h .1 .0)) (λ z. omega (arith, h .1 .0))) in
         ap (pieces i) (node-length x m y) ∙ around i (length (flat x)) (length (flat y)) ∙ rw (v, o, w)
-        (sym (spellings (flat (fitted T onLeft r (canonical T x))) (symbol m ∷ flat (fitted T onRight r (canonical T y)))))
+        (sym (spellings (flat (fitted T onLeft r (canonical T x))) (atom (symbol m) ∷ flat (fitted T onRight r (canonical T y)))))
 
     -- A block.
     block-written :
@@ -357,7 +372,7 @@ module _
         → areTokens (allTokens ds) ≡ true
         → pieces (suc (suc (i + length (allTokens ds)))) (length (flat t)) ≡ map spelling (flat (canonical (declareAll T ds) t))
         → Written T i (block ds t)
-    unfolding canonical keptAt wrapIf flat kindOf tokenOf
+    unfolding canonical keptAt wrapIf flat kindOf structureNumber
     block-written T i ds t l h v w =
         let d = length (allTokens ds) in
         let a = length (flat t) in
@@ -366,27 +381,27 @@ module _
         let size = block-length ds t in
         let le : suc (c + a) ≡ e = omega arith in
         let inner : suc i + d ≡ c = omega arith in
-        let let-at : pieces i 1 ≡ spelling keywordLet ∷ [] =
-        structure i (omega (arith, size)) keywordLet (by-kind (token A text i) 7 (sym (kinds i (omega (arith, size))) ∙ h .0))
+        let let-at : pieces i 1 ≡ spelling (structure keywordLet) ∷ [] =
+        one-kept i (omega (arith, size)) (structure keywordLet) (is-structure i keywordLet (h .0))
         (λ z. omega arith) (λ z. omega arith) (left .others i (omega (arith, size)) (λ z. omega (arith, h .0)) (λ z. omega (arith, h .0))) in
-        let in-at : pieces c 1 ≡ spelling keywordIn ∷ [] =
-        structure c (omega (arith, size)) keywordIn (by-kind (token A text c) 8 (sym (kinds c (omega (arith, size))) ∙ h .2))
+        let in-at : pieces c 1 ≡ spelling (structure keywordIn) ∷ [] =
+        one-kept c (omega (arith, size)) (structure keywordIn) (is-structure c keywordIn (h .2))
         (λ z. omega arith) (λ z. omega arith) (left .others c (omega (arith, size)) (λ z. omega (arith, h .2)) (λ z. omega (arith, h .2))) in
         let k : kind e ≡ 9 = ap kind (sym le) ∙ h .4 in
-        let end-at : pieces e 1 ≡ spelling keywordEnd ∷ [] =
-        structure e (omega (arith, size)) keywordEnd (by-kind (token A text e) 9 (sym (kinds e (omega (arith, size))) ∙ k))
+        let end-at : pieces e 1 ≡ spelling (structure keywordEnd) ∷ [] =
+        one-kept e (omega (arith, size)) (structure keywordEnd) (is-structure e keywordEnd k)
         (λ z. omega arith) (λ z. omega arith) (left .others e (omega (arith, size)) (λ z. omega arith) (λ z. omega arith)) in
         let same : tokensFrom text (A .kinds) (A .starts) (A .sizes) (suc i) d ≡ allTokens ds =
         ap (λ j. tokensFrom text (A .kinds) (A .starts) (A .sizes) (suc i) j) (omega arith) ∙ h .1 in
         let declared : pieces (suc i) d ≡ map spelling (allTokens (map stripDeclaration ds)) =
         stretch-kept A text L Z′ n kinds spelled sized (left .others) (suc i) (allTokens ds) (omega (arith, size)) same v (declare-tokens ds)
         ∙ ap (map spelling) (declare-written ds) in
-        let body : pieces (suc i) (d + suc a) ≡ map spelling (allTokens (map stripDeclaration ds) ++ keywordIn ∷ flat (canonical (declareAll T ds) t)) =
-        around (suc i) d a ∙ rw (inner, declared, in-at, w) (sym (spellings (allTokens (map stripDeclaration ds)) (keywordIn ∷ flat (canonical (declareAll T ds) t)))) in
+        let body : pieces (suc i) (d + suc a) ≡ map spelling (allTokens (map stripDeclaration ds) ++ structure keywordIn ∷ flat (canonical (declareAll T ds) t)) =
+        around (suc i) d a ∙ rw (inner, declared, in-at, w) (sym (spellings (allTokens (map stripDeclaration ds)) (structure keywordIn ∷ flat (canonical (declareAll T ds) t)))) in
         ap (pieces i) size ∙ within i (d + suc a)
         ∙ rw (let-at, end-at)
-        (ap (λ ps. spelling keywordLet ∷ (ps ++ spelling keywordEnd ∷ [])) body
-        ∙ ap (_∷_ (spelling keywordLet)) (sym (spellings (allTokens (map stripDeclaration ds) ++ keywordIn ∷ flat (canonical (declareAll T ds) t)) (keywordEnd ∷ []))))
+        (ap (λ ps. spelling (structure keywordLet) ∷ (ps ++ spelling (structure keywordEnd) ∷ [])) body
+        ∙ ap (_∷_ (spelling (structure keywordLet))) (sym (spellings (allTokens (map stripDeclaration ds) ++ structure keywordIn ∷ flat (canonical (declareAll T ds) t)) (structure keywordEnd ∷ []))))
 
     -- All of a span.
     whole-written :
@@ -404,7 +419,7 @@ module _
     -- Every tree, between operators that would admit it.
     tree-written :
         (T : Table) → Conditions T → Positive T → (i : ℕ) (t : Tree) → i + length (flat t) ≤ n → At A text L R T i t
-        → Admitted T (spanTree t) → InnerOk T t → areTokens (flat t) ≡ true
+        → Admitted T (spanTree t) → InnerChecked T t → areTokens (flat t) ≡ true
         → (present (spanTree t) ≡ true → Before (before i) (root T (spanTree t)))
         → (present (spanTree t) ≡ true → Behind (after (i + length (flat t))) (root T (spanTree t)))
         → Written T i t
@@ -433,8 +448,8 @@ module _
     tree-written T c p i (node x m y) l h a o v f g =
         let e = i + length (flat x) in
         let k : e < n = omega (arith, node-length x m y) in
-        let r = role T m (fixity (spanTree x) (spanTree y)) in
-        let admits = both-admitted r (root T (spanTree x)) (root T (spanTree y)) (a .3) in
+        let r = roleOver T (spanTree x) m (spanTree y) in
+        let admits = both-admitted r (root T (spanTree x)) (root T (spanTree y)) (a .2) in
         let w = node-tokens x m y v in
         let at = after-operator T e m (h .1) k in
         let be = before-operator T e m (h .1) in
@@ -456,7 +471,7 @@ module _
     -- The pieces of all tokens are the tokens of the canonical tree.
     pub pieces-canonical :
         (T : Table) → Conditions T → Positive T → (t : Tree) → length (flat t) ≡ n → At A text L R T 0 t
-        → Admitted T (spanTree t) → InnerOk T t → areTokens (flat t) ≡ true
+        → Admitted T (spanTree t) → InnerChecked T t → areTokens (flat t) ≡ true
         → piecesFrom text (A .kinds) L (A .starts) Z′ 0 n ≡ map spelling (flat (canonical T t))
     unfolding operatorBefore
     pieces-canonical T c p t e h a o v =

@@ -8,8 +8,11 @@ use native.Mathlib.Omega.{arith}
 use lib.Dec.{eqb}
 use lib.ListN.{length, take, drop, getD}
 use borrow.Author.Tests.{eq-eqb, ne-eqb}
-use Rattle.grammar.specs.Bytes.{Bytes}
+use Rattle.grammar.specs.Bytes.{All, Bytes}
 use Rattle.grammar.specs.Token.{
+  structureNumber,
+  atom,
+  structure,
   Token,
   symbol,
   number,
@@ -25,23 +28,15 @@ use Rattle.grammar.specs.Token.{
   isSymbol,
   isToken,
   areTokens,
+  Atom,
+  Structure,
 }
 use Rattle.grammar.specs.Operator.{Table, inForce}
-use Rattle.grammar.specs.Declaration.{
-  Declaration,
-  declares,
-  clears,
-  fixityWord,
-  associativityWord,
-  plainWord,
-  declarationTokens,
-  allTokens,
-}
+use Rattle.grammar.specs.Declaration.{Declaration, declares, clears, fixityWord, associativityWord, plainWord, declarationTokens, allTokens}
 use Rattle.grammar.specs.Coded.{kindOf, tokenOf, tokenAt, tokensFrom, charactersIn, nameNumber}
-use Rattle.grammar.specs.SpanTree.{isOperandToken}
-use Rattle.grammar.specs.Canonical.{strip, stripDeclaration, writtenName, writtenToken}
+use Rattle.grammar.specs.SpanTree.{isOperandAtom}
+use Rattle.grammar.specs.Canonical.{strip, stripDeclaration, writtenName, writtenAtom}
 use Rattle.grammar.proofs.Logic.{and-left, and-right, clash}
-use Rattle.grammar.proofs.Lists.{All}
 use Rattle.node.specs.NodeWords.{Arrays}
 use Rattle.tree.specs.Agreeing.{token}
 use Rattle.pieces.specs.Joined.{stripped, piece, piecesFrom}
@@ -82,15 +77,10 @@ pieces-join text K L S Z i (suc a) b =
 
 -- A token of a declaration as it is written.
 unfoldable pub withoutZeros : Token → Token
-withoutZeros (symbol w) = symbol w
-withoutZeros (number d) = number (strip d)
-withoutZeros (quoted c) = quoted c
-withoutZeros opening = opening
-withoutZeros closing = closing
-withoutZeros semicolon = semicolon
-withoutZeros keywordLet = keywordLet
-withoutZeros keywordIn = keywordIn
-withoutZeros keywordEnd = keywordEnd
+withoutZeros (atom (symbol w)) = atom (symbol w)
+withoutZeros (atom (number d)) = atom (number (strip d))
+withoutZeros (atom (quoted c)) = atom (quoted c)
+withoutZeros (structure s) = structure s
 
 -- No quoted name and no bracket: so are the tokens of declarations.
 abbrev pub Declares : Token → Type 0
@@ -100,16 +90,26 @@ headOr : Token → List Token → Token
 headOr t [] = t
 headOr t (u ∷ us) = u
 
-declares-word : (w : Bytes) → Declares (symbol w)
+-- The kinds of structure are numbered from 4 on.
+structure-above : (s : Structure) → 4 ≤ structureNumber s
+unfolding structureNumber
+structure-above opening = omega arith
+structure-above closing = omega arith
+structure-above semicolon = omega arith
+structure-above keywordLet = omega arith
+structure-above keywordIn = omega arith
+structure-above keywordEnd = omega arith
+
+declares-word : (w : Bytes) → Declares (atom (symbol w))
 unfolding kindOf
 declares-word w = (λ e. omega arith, λ e. omega arith, λ e. omega arith)
 
-declares-number : (d : Bytes) → Declares (number d)
+declares-number : (d : Bytes) → Declares (atom (number d))
 unfolding kindOf
 declares-number d = (λ e. omega arith, λ e. omega arith, λ e. omega arith)
 
-declares-end : Declares semicolon
-unfolding kindOf
+declares-end : Declares (structure semicolon)
+unfolding kindOf structureNumber
 declares-end = (λ e. omega arith, λ e. omega arith, λ e. omega arith)
 
 pub declare-tokens : (ds : List Declaration) → All Declares (allTokens ds)
@@ -123,8 +123,8 @@ pub declare-written : (ds : List Declaration) → map withoutZeros (allTokens ds
 unfolding allTokens declarationTokens withoutZeros stripDeclaration
 declare-written [] = refl
 declare-written (declares f a d m ∷ ds) =
-    ap (λ ts. symbol (fixityWord f) ∷ symbol (associativityWord a) ∷ number (strip d) ∷ symbol m ∷ semicolon ∷ ts) (declare-written ds)
-declare-written (clears m ∷ ds) = ap (λ ts. symbol plainWord ∷ symbol m ∷ semicolon ∷ ts) (declare-written ds)
+    ap (λ ts. atom (symbol (fixityWord f)) ∷ atom (symbol (associativityWord a)) ∷ atom (number (strip d)) ∷ atom (symbol m) ∷ structure semicolon ∷ ts) (declare-written ds)
+declare-written (clears m ∷ ds) = ap (λ ts. atom (symbol plainWord) ∷ atom (symbol m) ∷ structure semicolon ∷ ts) (declare-written ds)
 
 -- `Z′` has the lengths of tokens, with 0 for those that are left out.
 module _
@@ -161,17 +161,17 @@ module _
         rw (ne-eqb (getD (A .kinds) i 0) 2 (λ z. f (sym k ∙ z)), piece)
         (rw (ne-eqb (getD (A .kinds) i 0) 3 (λ z. g (sym k ∙ z))) (spelled i l ∙ ap spelling e))
 
-    number-piece : (i : ℕ) → i < n → (d : Bytes) → token A text i ≡ number d → isNumber d ≡ true → pieceAt i ≡ strip d
+    number-piece : (i : ℕ) → i < n → (d : Bytes) → token A text i ≡ atom (number d) → isNumber d ≡ true → pieceAt i ≡ strip d
     unfolding piece kindOf tokenOf
     number-piece i l d e v =
         let k : getD (A .kinds) i 0 ≡ 2 = kinds i l ∙ ap kindOf e in
-        let c = characters-at i l (number d) e in
+        let c = characters-at i l (atom (number d)) e in
         let q : charactersIn text (getD (A .kinds) i 0) (getD (A .starts) i 0) (getD (A .sizes) i 0) ≡ d = cc in
         rw (eq-eqb (getD (A .kinds) i 0) 2 k, piece) (rw q (stripped-number d v))
 
     quoted-piece :
-        (T : Table) (i : ℕ) → i < n → (c : Bytes) → token A text i ≡ quoted c → getD L i 0 ≡ nameNumber T (quoted c)
-        → pieceAt i ≡ spelling (writtenName T c)
+        (T : Table) (i : ℕ) → i < n → (c : Bytes) → token A text i ≡ atom (quoted c) → getD L i 0 ≡ nameNumber T (atom (quoted c))
+        → pieceAt i ≡ spelling (atom (writtenName T c))
     unfolding piece kindOf tokenOf writtenName nameNumber spelling
     quoted-piece T i l c e m = go (isSymbol c) refl (inForce T c) refl
       where
@@ -179,12 +179,12 @@ module _
         k = kinds i l ∙ ap kindOf e
 
         named : charactersIn text (getD (A .kinds) i 0) (getD (A .starts) i 0) (getD (A .sizes) i 0) ≡ c
-        named = let q : quoted (charactersIn text (getD (A .kinds) i 0) (getD (A .starts) i 0) (getD (A .sizes) i 0)) ≡ quoted c = characters-at i l (quoted c) e in cc
+        named = let q : atom (quoted (charactersIn text (getD (A .kinds) i 0) (getD (A .starts) i 0) (getD (A .sizes) i 0))) ≡ atom (quoted c) = characters-at i l (atom (quoted c)) e in cc
 
-        whole : take (getD (A .sizes) i 0) (drop (getD (A .starts) i 0) text) ≡ spelling (quoted c)
+        whole : take (getD (A .sizes) i 0) (drop (getD (A .starts) i 0) text) ≡ spelling (atom (quoted c))
         whole = spelled i l ∙ ap spelling e
 
-        go : (s : Bool) → isSymbol c ≡ s → (f : Bool) → inForce T c ≡ f → pieceAt i ≡ spelling (writtenName T c)
+        go : (s : Bool) → isSymbol c ≡ s → (f : Bool) → inForce T c ≡ f → pieceAt i ≡ spelling (atom (writtenName T c))
         go true x true y =
             let z : getD L i 0 ≡ 1 = m ∙ rw (y, nameNumber) in
             rw (ne-eqb (getD (A .kinds) i 0) 2 (λ q. omega (arith, k)), piece)
@@ -205,20 +205,16 @@ module _
 
     -- A leaf.
     pub leaf-kept :
-        (T : Table) (i : ℕ) → i < n → (t : Token) → token A text i ≡ t → isToken t ≡ true → isOperandToken T t ≡ true
-        → getD L i 0 ≡ nameNumber T t → getD Z′ i 0 ≡ getD (A .sizes) i 0 → kept i 1 ≡ spelling (writtenToken T t) ∷ []
-    unfolding isOperandToken isToken writtenToken kindOf spelling
+        (T : Table) (i : ℕ) → i < n → (a : Atom) → token A text i ≡ atom a → isToken (atom a) ≡ true → isOperandAtom T a ≡ true
+        → getD L i 0 ≡ nameNumber T (atom a) → getD Z′ i 0 ≡ getD (A .sizes) i 0
+        → kept i 1 ≡ spelling (atom (writtenAtom T a)) ∷ []
+    unfolding isOperandAtom isToken writtenAtom kindOf spelling
     leaf-kept T i l (symbol w) e v o m z =
-        structure-kept i l (symbol w) e (λ q. omega arith) (λ q. omega arith) z ∙ ap (λ t. spelling t ∷ []) (sym (bare-name T w v o))
+        structure-kept i l (atom (symbol w)) e (λ q. omega arith) (λ q. omega arith) z
+        ∙ ap (λ a. spelling (atom a) ∷ []) (sym (bare-name T w v o))
     leaf-kept T i l (number d) e v o m z =
         stays-whole i l z ∙ ap (λ p. p ∷ []) (number-piece i l d e (and-left (isNumber d) _ v))
     leaf-kept T i l (quoted c) e v o m z = stays-whole i l z ∙ ap (λ p. p ∷ []) (quoted-piece T i l c e m)
-    leaf-kept T i l opening e v o m z = absurd (clash o refl)
-    leaf-kept T i l closing e v o m z = absurd (clash o refl)
-    leaf-kept T i l semicolon e v o m z = absurd (clash o refl)
-    leaf-kept T i l keywordLet e v o m z = absurd (clash o refl)
-    leaf-kept T i l keywordIn e v o m z = absurd (clash o refl)
-    leaf-kept T i l keywordEnd e v o m z = absurd (clash o refl)
 
     -- A token of a declaration.
     module _ (others : (j : ℕ) → j < n → (getD (A .kinds) j 0 ≡ 4 → ⊥) → (getD (A .kinds) j 0 ≡ 5 → ⊥) → getD Z′ j 0 ≡ getD (A .sizes) j 0) where
@@ -230,15 +226,11 @@ module _
         where
           go : (u : Token) → token A text i ≡ u → isToken u ≡ true → Declares u → getD Z′ i 0 ≡ getD (A .sizes) i 0
               → kept i 1 ≡ spelling (withoutZeros u) ∷ []
-          go (number d) e v q z = stays-whole i l z ∙ ap (λ p. p ∷ []) (number-piece i l d e (and-left (isNumber d) _ v))
-          go (quoted c) e v q z = absurd (q .0 refl)
-          go (symbol w) e v q z = structure-kept i l (symbol w) e (λ x. omega arith) (λ x. omega arith) z
-          go opening e v q z = structure-kept i l opening e (λ x. omega arith) (λ x. omega arith) z
-          go closing e v q z = structure-kept i l closing e (λ x. omega arith) (λ x. omega arith) z
-          go semicolon e v q z = structure-kept i l semicolon e (λ x. omega arith) (λ x. omega arith) z
-          go keywordLet e v q z = structure-kept i l keywordLet e (λ x. omega arith) (λ x. omega arith) z
-          go keywordIn e v q z = structure-kept i l keywordIn e (λ x. omega arith) (λ x. omega arith) z
-          go keywordEnd e v q z = structure-kept i l keywordEnd e (λ x. omega arith) (λ x. omega arith) z
+          go (atom (number d)) e v q z = stays-whole i l z ∙ ap (λ p. p ∷ []) (number-piece i l d e (and-left (isNumber d) _ v))
+          go (atom (quoted c)) e v q z = absurd (q .0 refl)
+          go (atom (symbol w)) e v q z = structure-kept i l (atom (symbol w)) e (λ x. omega arith) (λ x. omega arith) z
+          go (structure s) e v q z =
+              structure-kept i l (structure s) e (λ x. omega (arith, structure-above s)) (λ x. omega (arith, structure-above s)) z
 
       -- Tokens of declarations one behind the other.
       pub stretch-kept :

@@ -8,21 +8,22 @@ use Prim.Native.Nat.{ℕ, zero, suc, _+_, _-_, _≤_, _<_}
 use native.Mathlib.Omega.{arith}
 use lib.ListN.{length, getD, length-append}
 use Rattle.grammar.specs.Bytes.{Bytes}
-use Rattle.grammar.specs.Token.{Token, symbol, closing, keywordIn, keywordEnd}
+use Rattle.grammar.specs.Token.{atom, structure, Token, symbol, closing, keywordIn, keywordEnd}
 use Rattle.grammar.specs.Operator.{Prefix, Infix, Postfix, Role, Table, role, isSome, hasRole}
 use Rattle.grammar.specs.Declaration.{declarations}
-use Rattle.grammar.specs.Span.{Item, single, pair, scope, itemTokens, items}
+use Rattle.grammar.specs.Span.{Item, single, pair, scope, itemTokens, items, allItemTokens}
 use Rattle.grammar.specs.Coded.{roleCode}
 use Rattle.grammar.specs.SpanTree.{SpanTree, missing, operand, apply, yield, root}
 use Rattle.grammar.specs.Search.{symbolAt, operatorAt}
 use Rattle.grammar.specs.Tree.{Tree, nothing, leaf, bracket, block, node, flat, spanTree}
 use Rattle.grammar.specs.Blocks.{bodyTable, hangItem, hang, treeIn}
-use Rattle.grammar.proofs.ItemsNested.{allItemTokens, append-tokens}
+use Rattle.grammar.proofs.Logic.{impossible}
+use Rattle.grammar.proofs.ItemsNested.{append-tokens}
 use Rattle.grammar.proofs.SpanSearch.{treeOfSpan-sound}
-use Rattle.grammar.proofs.TextSound.{underBracket-some, underBlock-some, underOperator-some}
+use Rattle.grammar.proofs.Hung.{underBracket-some, underBlock-some, underOperator-some}
 use Rattle.nesting.proofs.PairedItems.{length-range}
 use Rattle.search.specs.Slots.{slot, operatorSlot, slotOf}
-use Rattle.tree.specs.Agreeing.{tokens, token, Agrees}
+use Rattle.tree.specs.Agreeing.{tokens, Agrees}
 use Rattle.tree.proofs.TokenWords.{PairFits, ScopeFits, ItemFits, AllFit, agrees-fit, agrees-length, symbol-kind}
 use Rattle.tree.proofs.TreeWords.{tree-found, hang-root, fit-left, fit-right}
 use Rattle.node.specs.NodeWords.{Arrays}
@@ -56,7 +57,7 @@ pub root-of-tree :
     (A : Arrays) (text : Bytes) (L : List ℕ) (k : ℕ) (T : Table) (from to : ℕ) (t : Tree) → Agrees A text L T from to
     → treeIn k T (tokens A text from to) ≡ some t → spanRoot A from to ≡ roleCode (root T (spanTree t))
 unfolding treeIn
-root-of-tree A text L zero T from to t h e = let z : _≡_ {A = ℕ} 0 1 = cc in absurd (omega arith)
+root-of-tree A text L zero T from to t h e = impossible cc
 root-of-tree A text L (suc k) T from to t h e =
     let f = tree-found k T (tokens A text from to) t e in
     root-of-span A text L h (f .0) (f .1) ∙ ap roleCode (sym (hang-root (treeIn k) T (f .0) t (f .2)))
@@ -85,7 +86,7 @@ module _ (A : Arrays) (text : Bytes) (L R : List ℕ) where
   unfolding itemTokens flat
   pair-placed k f T ts i t h roots e =
       let n = ap length (h .inside) ∙ length-range text (A .kinds) (A .starts) (A .sizes) (suc i) (h .close) in
-      let a = length-append ts (closing ∷ []) in
+      let a = length-append ts (structure closing ∷ []) in
       let g : treeIn k T (tokens A text (suc i) (h .close)) ≡ some t = rw (h .inside) at e in
       let inner : Rooted (suc i) (h .close) =
       rooted-within i (i + length (itemTokens (pair ts))) (suc i) (h .close) (omega arith) (omega (arith, n, a, h .before)) roots in
@@ -95,7 +96,7 @@ module _ (A : Arrays) (text : Bytes) (L R : List ℕ) where
       roots i (omega arith) (omega arith) (h .isOpening) ∙ ap (spanRoot A (suc i)) (h .closes)
       ∙ root-of-tree A text L k T (suc i) (h .close) t (h .agrees) g in (
         (h .isOpening, h .closes ∙ c, rw c at (h .isClosing), number, w .0),
-        omega (arith, w .1, n, a, length-append (flat t) (closing ∷ [])),
+        omega (arith, w .1, n, a, length-append (flat t) (structure closing ∷ [])),
       )
 
   scope-placed : (k : ℕ) → SpansPlaced k → (T : Table) (ds ts : List Token) (i : ℕ) (t : Tree) → ScopeFits A text L T i ds ts
@@ -105,8 +106,8 @@ module _ (A : Arrays) (text : Bytes) (L R : List ℕ) where
   scope-placed k f T ds ts i t h roots e =
       let n = ap length (h .inside) ∙ length-range text (A .kinds) (A .starts) (A .sizes) (suc (h .middle)) (h .close) in
       let o = ap length (h .declared) ∙ length-range text (A .kinds) (A .starts) (A .sizes) (suc i) (h .middle) in
-      let a = length-append (ds ++ keywordIn ∷ ts) (keywordEnd ∷ []) in
-      let b = length-append ds (keywordIn ∷ ts) in
+      let a = length-append (ds ++ structure keywordIn ∷ ts) (structure keywordEnd ∷ []) in
+      let b = length-append ds (structure keywordIn ∷ ts) in
       let g : treeIn k (bodyTable T ds) (tokens A text (suc (h .middle)) (h .close)) ≡ some t = rw (h .inside) at e in
       let inner : Rooted (suc (h .middle)) (h .close) =
       rooted-within i (i + length (itemTokens (scope ds ts))) (suc (h .middle)) (h .close) (omega (arith, h .before))
@@ -128,17 +129,15 @@ module _ (A : Arrays) (text : Bytes) (L R : List ℕ) where
           n,
           a,
           b,
-          length-append (ds ++ keywordIn ∷ flat t) (keywordEnd ∷ []),
-          length-append ds (keywordIn ∷ flat t),
+          length-append (ds ++ structure keywordIn ∷ flat t) (structure keywordEnd ∷ []),
+          length-append ds (structure keywordIn ∷ flat t),
         ),
       )
 
   item-placed : (k : ℕ) → SpansPlaced k → (T : Table) (x : Item) (i : ℕ) (t : Tree) → ItemFits A text L T i x
       → Rooted i (i + length (itemTokens x)) → hangItem (treeIn k) T x ≡ some t → Placed T i (length (itemTokens x)) t
   unfolding hangItem itemTokens flat
-  item-placed k f T (single u) i t h roots e =
-      let q : t ≡ leaf (token A text i) = let z : t ≡ leaf u = cc in z ∙ ap leaf (h .1) in
-      rw q ((h .0, refl, h .2), refl)
+  item-placed k f T (single a) i t h roots e = let q : t ≡ leaf a = cc in rw q (h, refl)
   item-placed k f T (pair ts) i t h roots e =
       let q = underBracket-some (treeIn k T ts) t e in
       rw (q .2) (pair-placed k f T ts i (q .0) h roots (q .1))
@@ -154,12 +153,12 @@ module _ (A : Arrays) (text : Bytes) (L R : List ℕ) where
   node-placed T before after m i l r fit p q =
       let here = fit-right A text L T before (single (symbol m) ∷ after) i fit in
       let operator : OperatorAt A text L R T (i + size before) m = (
-        symbol-kind A text L (i + size before) m (here .1 .0) (sym (here .1 .1)),
-        sym (here .1 .1),
+        symbol-kind A text L (i + size before) m (here .1 .0) (here .1 .1),
+        here .1 .1,
         here .0 ∙ slot-symbol T m,
       ) in (
         (p .0, rw (p .1) operator, rw (p .1) (q .0)),
-        omega (arith, length-append (flat l) (symbol m ∷ flat r), p .1, q .1),
+        omega (arith, length-append (flat l) (atom (symbol m) ∷ flat r), p .1, q .1),
       )
 
   -- The tree hung from the tree of a part of a span.
@@ -177,7 +176,7 @@ module _ (A : Arrays) (text : Bytes) (L R : List ℕ) where
       let q = underOperator-some m (hang (treeIn k) T l) (hang (treeIn k) T r) t e in
       let n : size (yield l ++ single (symbol m) ∷ yield r) ≡ size (yield l) + suc (size (yield r)) =
       ap length (append-tokens (yield l) (single (symbol m) ∷ yield r))
-      ∙ length-append (allItemTokens (yield l)) (symbol m ∷ allItemTokens (yield r)) in
+      ∙ length-append (allItemTokens (yield l)) (atom (symbol m) ∷ allItemTokens (yield r)) in
       let j = i + size (yield l) in
       let o : j + 1 ≡ suc j = omega arith in
       let before : AllFit A text L T i (yield l) = fit-left A text L T (yield l) (single (symbol m) ∷ yield r) i fit in
@@ -196,7 +195,7 @@ module _ (A : Arrays) (text : Bytes) (L R : List ℕ) where
       → ((j : ℕ) → from ≤ j → j < to → getD (A .kinds) j 0 ≡ 4 → getD R j 0 ≡ spanRoot A (suc j) (getD (A .closes) j 0))
       → treeIn k T (tokens A text from to) ≡ some t → At A text L R T from t × (length (flat t) ≡ to - from)
   unfolding treeIn
-  span-stands zero T from to t h roots e = let z : _≡_ {A = ℕ} 0 1 = cc in absurd (omega arith)
+  span-stands zero T from to t h roots e = impossible cc
   span-stands (suc k) T from to t h roots e =
       let xs = items (tokens A text from to) in
       let f = tree-found k T (tokens A text from to) t e in

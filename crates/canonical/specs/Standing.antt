@@ -4,7 +4,7 @@ use mathlib.Core.List.{List}
 use Prim.Native.Nat.{ℕ, suc, _+_}
 use lib.ListN.{length, getD}
 use Rattle.grammar.specs.Bytes.{Bytes}
-use Rattle.grammar.specs.Token.{symbol}
+use Rattle.grammar.specs.Token.{atom, symbol}
 use Rattle.grammar.specs.Operator.{Table, role}
 use Rattle.grammar.specs.Declaration.{declareAll, allTokens}
 use Rattle.grammar.specs.Coded.{roleCode, nameNumber}
@@ -23,12 +23,12 @@ module _ (A : Arrays) (text : Bytes) (L R : List ℕ) where
 
   -- The operator `m`, with its roles in force.
   abbrev pub OperatorAt : Table → ℕ → Bytes → Type 0
-  OperatorAt T i m = (kind i ≡ 1) × (token A text i ≡ symbol m) × (slotOfToken A i ≡ operatorSlot (role T m))
+  OperatorAt T i m = (kind i ≡ 1) × (token A text i ≡ atom (symbol m)) × (slotOfToken A i ≡ operatorSlot (role T m))
 
   -- The tree begins at token number `i`, under the operators `T`.
   abbrev pub At : Table → ℕ → Tree → Type 0
   At T i nothing = Unit {0}
-  At T i (leaf t) = Stands A text i × (token A text i ≡ t) × (getD L i 0 ≡ nameNumber T t)
+  At T i (leaf a) = Stands A text i × (token A text i ≡ atom a) × (getD L i 0 ≡ nameNumber T (atom a))
   At T i (bracket t) =
       (kind i ≡ 4) × (getD (A .closes) i 0 ≡ suc (i + length (flat t))) × (kind (suc (i + length (flat t))) ≡ 5)
       × (getD R i 0 ≡ roleCode (root T (spanTree t))) × At T (suc i) t

@@ -2,8 +2,8 @@ pub mod Held
 pub mod Precedences
 pub mod Words
 pub mod Looks
-pub mod Parts
+pub mod DeclarationParts
 pub mod Unfit
 pub mod Counts
-pub mod Steps
-pub mod Turns
+pub mod TokenDeclarations
+pub mod DeclarationLoop

@@ -9,7 +9,7 @@ use lib.ListN.{length, take, drop, getD}
 use lib.Seq.{take-append-seam}
 use borrow.Author.Tests.{eq-eqb, ne-eqb, eqb-true, eqb-false}
 use Rattle.grammar.specs.Bytes.{Bytes}
-use Rattle.grammar.specs.Token.{Token, symbol, spelling}
+use Rattle.grammar.specs.Token.{Token, atom, symbol, spelling}
 use Rattle.grammar.specs.Scan.{nothing, wrong, taken, front}
 use Rattle.grammar.specs.Scan as Scan
 use Rattle.grammar.specs.Coded.{kindOf, charactersIn, tokenOf, tokenAt}
@@ -97,7 +97,7 @@ module _ (text : Bytes) (K S Z : List ℕ) (i : ℕ) where
             inr (g ∙ sym (bytes-other kind (drop start text) (seenAt text S i) refl k), λ h. k (ap (λ s. s .kind) seen-found ∙ h))
 
     -- The characters of a symbol are its bytes.
-    pub symbol-bytes : (m : Bytes) → token ≡ symbol m → m ≡ take size (drop start text)
+    pub symbol-bytes : (m : Bytes) → token ≡ atom (symbol m) → m ≡ take size (drop start text)
     unfolding spelling
     symbol-bytes m e =
         sym

@@ -29,6 +29,7 @@ use Rattle.grammar.specs.Declaration.{
   declaration,
 }
 use Rattle.grammar.specs.Declaration as D
+use Rattle.grammar.proofs.Logic.{impossible}
 use Rattle.declarations.specs.declared.parse.Parsed.the-variants.{Unfit}
 use Rattle.declarations.specs.Parses.{codedParsed, codedDeclaration}
 
@@ -43,7 +44,7 @@ module _ {n : ℕ} where
   refused k h e = let z : k ≡ n = cc in omega arith
 
   went-on : {d : Declaration} {rest : List Token} → parsed d rest ≡ unfit n → n ≤ 4
-  went-on e = let z : _≡_ {A = ℕ} 0 1 = cc in absurd (omega arith)
+  went-on e = impossible cc
 
   found :
       {A : Type 0} (k : ℕ) → k ≤ 4 → (o : Option A) {further : A → D.Parsed}

@@ -10,7 +10,7 @@ use borrow.Author.Tests.{ne-eqb, eqb-true, eqb-false}
 use Rattle.grammar.specs.Bytes.{Bytes, bytes, same}
 use Rattle.grammar.specs.Operator.{Fixity, Prefix, Infix, Postfix, Associativity, left, right, non, allowed}
 use Rattle.grammar.specs.Coded.{fixityCode, fixityOf, associativityCode, associativityOf}
-use Rattle.grammar.specs.Token.{symbol}
+use Rattle.grammar.specs.Token.{atom, symbol}
 use Rattle.grammar.specs.Declaration.{fixityWord, associativityWord, fixityNamed, associativityNamed, associativityFor, symbolOf}
 use Rattle.declarations.specs.Parses.{fixityNumber, associativityNumber}
 
@@ -139,7 +139,7 @@ fixity-number w = go (fixityNamed w)
 
 -- As `associativityFor` takes it.
 pub associativity-number
-    : (f : ℕ) (w : Bytes) → StandsFor associativityOf associativityCode (associativityFor (fixityOf f) (symbol w)) (associativityNumber f w)
+    : (f : ℕ) (w : Bytes) → StandsFor associativityOf associativityCode (associativityFor (fixityOf f) (atom (symbol w))) (associativityNumber f w)
 unfolding associativityNumber associativityFor symbolOf
 associativity-number f w = go (associativityNamed w)
   where

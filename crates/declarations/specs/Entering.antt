@@ -5,12 +5,12 @@ use mathlib.Core.List.{List}
 use Prim.Native.Nat.{ℕ, _≤_, _<_}
 use lib.Dec.{ltb}
 use lib.ListN.{length, getD}
+use Rattle.grammar.specs.Fault.{longestText}
 use Rattle.grammar.specs.Bytes.{Bytes}
 use Rattle.grammar.specs.Outcome.{Outcome, refused, passed}
 use Rattle.grammar.specs.Operator.{Fixity, Role, Distinct}
 use Rattle.grammar.specs.Operator as G
 use Rattle.grammar.specs.Declaration.{mostOperators}
-use Rattle.grammar.specs.Answer.{longestText}
 use Rattle.table.specs.Entries.{operatorsFrom, tableOf, Sized}
 use Rattle.table.specs.declared.Table.{Table}
 use Rattle.declarations.specs.declared.enter.Entered.{Entered}

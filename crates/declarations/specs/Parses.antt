@@ -59,8 +59,8 @@ expected kind text S at to k d =
 abbrev pub closedAt : Bytes → List ℕ → ℕ → ℕ → ℕ → Parsed → Parsed
 closedAt = expected 6
 
-abbrev pub operatorAt : Bytes → List ℕ → ℕ → ℕ → ℕ → Parsed → Parsed
-operatorAt text S at to k d = expected 1 text S at to k (closedAt text S (at + 1) to (k + 1) d)
+abbrev pub operatorField : Bytes → List ℕ → ℕ → ℕ → ℕ → Parsed → Parsed
+operatorField text S at to k d = expected 1 text S at to k (closedAt text S (at + 1) to (k + 1) d)
 
 -- Token numbers `from` to `to` of the arrays: the scanner finds the tokens at their offsets, with kinds and lengths that some lists hold.
 pub record InArrays (text : Bytes) (S : List ℕ) (from to : ℕ) : Type 0 where

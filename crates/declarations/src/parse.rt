@@ -7,7 +7,7 @@ ghost use Prim.Native.Nat.{ℕ, _≤_, _-_};
 ghost use Rattle.grammar.specs.Coded.{tokensFrom};
 ghost use Rattle.grammar.specs.Declaration.{declaration};
 ghost use Rattle.scan.specs.Tokens.{TokensFound};
-ghost use Rattle.declarations.specs.Parses.{precedenceCode, fixityNumber, associativityNumber, codedParsed, closedAt, operatorAt, InArrays};
+ghost use Rattle.declarations.specs.Parses.{precedenceCode, fixityNumber, associativityNumber, codedParsed, closedAt, operatorField, InArrays};
 
 // What a declaration part begins with: the number of the first token that does not fit, counted from the front; a role, by its
 // fixity (1 infix, 2 prefix, 3 postfix) and its number; or a `plain` declaration.
@@ -111,7 +111,7 @@ fn operator_part<'a>(
     d: Parsed,
 ) -> Parsed
     requires { ⌜ (to ≤ 1024) × (k ≤ 3) ⌝ }
-    ensures { λ r. ⌜ r ≡ operatorAt (now (text .entry)) (now (starts .entry)) at to k d ⌝ }
+    ensures { λ r. ⌜ r ≡ operatorField (now (text .entry)) (now (starts .entry)) at to k d ⌝ }
 {
     if to <= at {
         return Parsed::Unfit(k);

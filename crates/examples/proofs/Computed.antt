@@ -26,22 +26,27 @@ use Rattle.grammar.specs.Bytes.{bytes}
 use Rattle.examples.specs.Table.{table, given, asked, t3Listing}
 use Rattle.examples.specs.Cases.{cases}
 
+-- The four statements below, computed under one list of opened definitions.
+computed :
+    (map given table ≡ map (λ e. asked (e .expected)) table)
+    × (Listing.listing 25 9 (bytes "a + b * 3") ≡ t3Listing)
+    × (map (λ c. Listing.listing 1000 2000 (c .text)) cases ≡ map (λ c. c .listing) cases)
+    × (map Limits.given limits ≡ map Limits.asked limits)
+unfolding Answer.tokensOf Answer.startsOf Answer.offsetOf Answer.spanOffset Answer.readSpans Answer.readTokens Answer.readText Answer.rejection Answer.success Answer.over Answer.readingWords Answer.readInto Answer.read Answer.readingText Answer.writeInto Answer.canonicalizeInto Answer.canonicalize Blocks.bodyTable Blocks.checkItem Blocks.checkItems Blocks.checkBlocks Blocks.itemSpans Blocks.allItemSpans Blocks.spans Blocks.firstWithout Blocks.treelessOpener Blocks.underBracket Blocks.underBlock Blocks.underOperator Blocks.hangItem Blocks.hang Blocks.hangFound Blocks.treeIn Blocks.treeOf Bytes.same Bytes.member Bytes.every Bytes.isEmpty Canonical.withoutZeros Canonical.orZero Canonical.strip Canonical.stripDeclaration Canonical.writtenName Canonical.writtenAtom Canonical.fitted Canonical.canonical Canonical.spaced Canonical.joinTokens Canonical.canonicalText Coded.kindOf Coded.charactersIn Coded.tokenOf Coded.tokenAt Coded.tokensFrom Declaration.valueFrom Declaration.value Declaration.declare Declaration.declareAll Declaration.startDeclarations Declaration.startTable Declaration.fixityWord Declaration.associativityWord Declaration.declarationTokens Declaration.allTokens Declaration.isPrecedence Declaration.symbolOf Declaration.precedenceOf Declaration.isSemicolon Declaration.fixityNamed Declaration.associativityNamed Declaration.closed Declaration.operatorPart Declaration.precedencePart Declaration.associativityFor Declaration.associativityPart Declaration.firstWord Declaration.declaration Declaration.operatorPlace Declaration.checkedAt Declaration.hasRoom Declaration.enter Declaration.declarationsOf Declaration.declarations Listing.decimalIn Listing.decimal Listing.kindNames Listing.field Listing.nodeLines Listing.refusalLine Listing.canonicalLines Listing.readingLines Listing.listingOf Listing.listing Nesting.outermost Nesting.within Nesting.move Nesting.closeInnermost Nesting.nesting Nodes.leafKind Nodes.charactersOffset Nodes.count Nodes.nodeWords Nodes.operatorWords Nodes.words Operator.sameFixity Operator.sameAssociativity Operator.allowed Operator.role Operator.isSome Operator.hasRole Operator.inForce Operator.replaced Operator.declareRole Operator.removeRoles Operator.onePrecedenceTest Operator.only Operator.absentRole Operator.besideInfix Operator.lawfulAssociativities Operator.lawful Operator.lawfulTable Operator.listed Outcome.andThen Outcome.placed Scan.run Scan.keywordOrSymbol Scan.atMost Scan.quotedName Scan.frontOf Scan.front Scan.before Scan.scan Search.firstRole Search.precedence Search.symbolAt Search.operatorAt Search.operatorOf Search.precedenceAt Search.widest Search.shifted Search.firstOf Search.lastHere Search.lastOf Search.couldBeRight Search.rootIn Search.rootOf Search.joined Search.lone Search.partTree Search.treeOfSpan Span.itemTokens Span.effect Span.ownItem Span.isIn Span.beforeIn Span.afterIn Span.item Span.itemsFrom Span.items SpanTree.yield SpanTree.present SpanTree.fixityBy SpanTree.fixity SpanTree.roleOfFixity SpanTree.roleOver SpanTree.root SpanTree.rootPrecedence SpanTree.isLeft SpanTree.isRight SpanTree.rightRoot SpanTree.admitsEqual SpanTree.admits SpanTree.admitsBoth SpanTree.isOperandAtom SpanTree.isOperand Spelling.continues Token.class Token.isBlankByte Token.beginsWord Token.inWord Token.inSign Token.inNumber Token.inQuotes Token.characters Token.spelling Token.structureNumber Token.isStructure Token.isKeyword Token.isWord Token.isSign Token.isNumber Token.isSymbol Tree.flat Tree.spanTree limits Limits.repeated Limits.declared Limits.longNames
+computed = (refl, refl, refl, refl)
+
 -- What both services answer and leave in the buffers is what document 01 says, for each of T1 to T14.
 pub table-holds : map given table ≡ map (λ e. asked (e .expected)) table
-unfolding Answer.tokensOf Answer.startsOf Answer.offsetOf Answer.spanOffset Answer.found Answer.readSpans Answer.readTokens Answer.readText Answer.rejection Answer.success Answer.over Answer.readingWords Answer.readInto Answer.read Answer.readingText Answer.writeInto Answer.canonicalizeInto Answer.canonicalize Blocks.bodyTable Blocks.checkItem Blocks.checkItems Blocks.checkBlocks Blocks.itemSpans Blocks.allItemSpans Blocks.spans Blocks.firstWithout Blocks.underBracket Blocks.underBlock Blocks.underOperator Blocks.hangItem Blocks.hang Blocks.hangFound Blocks.treeIn Blocks.treeOf Bytes.same Bytes.member Bytes.every Bytes.isEmpty Canonical.withoutZeros Canonical.orZero Canonical.strip Canonical.stripDeclaration Canonical.writtenName Canonical.writtenToken Canonical.fitted Canonical.canonical Canonical.spaced Canonical.joinTokens Canonical.canonicalText Coded.kindOf Coded.charactersIn Coded.tokenOf Coded.tokenAt Coded.tokensFrom Declaration.valueFrom Declaration.value Declaration.declare Declaration.declareAll Declaration.startDeclarations Declaration.start Declaration.fixityWord Declaration.associativityWord Declaration.declarationTokens Declaration.allTokens Declaration.isPrecedence Declaration.symbolOf Declaration.precedenceOf Declaration.isSemicolon Declaration.fixityNamed Declaration.associativityNamed Declaration.closed Declaration.operatorPart Declaration.precedencePart Declaration.associativityFor Declaration.associativityPart Declaration.firstWord Declaration.declaration Declaration.operatorPlace Declaration.checkedAt Declaration.hasRoom Declaration.enter Declaration.declarationsOf Declaration.declarations Listing.decimalIn Listing.decimal Listing.kindNames Listing.field Listing.nodeLines Listing.refusalLine Listing.canonicalLines Listing.readingLines Listing.listingOf Listing.listing Nesting.outermost Nesting.within Nesting.move Nesting.closeInnermost Nesting.nesting Nodes.leafKind Nodes.operatorKind Nodes.charactersOffset Nodes.characters Nodes.count Nodes.nodeWords Nodes.firstChild Nodes.secondChild Nodes.words Operator.sameFixity Operator.sameAssociativity Operator.allowed Operator.role Operator.isSome Operator.hasRole Operator.inForce Operator.replaced Operator.declareRole Operator.removeRoles Operator.onePrecedenceTest Operator.only Operator.absentRole Operator.besideInfix Operator.lawfulAssociativities Operator.lawful Operator.lawfulTable Operator.listed Outcome.andThen Outcome.placed Scan.run Scan.keywordOrSymbol Scan.atMost Scan.quotedName Scan.frontOf Scan.front Scan.before Scan.scan Search.firstRole Search.precedence Search.symbolAt Search.operatorAt Search.operatorOf Search.precedenceAt Search.widest Search.behind Search.firstOf Search.lastHere Search.lastOf Search.couldBeRight Search.rootIn Search.rootOf Search.joined Search.lone Search.partTree Search.treeOfSpan Span.itemTokens Span.effect Span.isIn Span.beforeIn Span.afterIn Span.item Span.itemsFrom Span.items SpanTree.yield SpanTree.present SpanTree.fixityBy SpanTree.fixity SpanTree.root SpanTree.rootPrecedence SpanTree.isLeft SpanTree.isRight SpanTree.rightRoot SpanTree.admitsEqual SpanTree.admits SpanTree.admitsBoth SpanTree.isOperandToken SpanTree.isOperand Spelling.continues Token.class Token.isBlankByte Token.beginsWord Token.inWord Token.inSign Token.inNumber Token.inQuotes Token.spelling Token.isKeyword Token.isWord Token.isSign Token.isNumber Token.isSymbol Tree.flat Tree.spanTree
-table-holds = refl
+table-holds = computed .0
 
 -- T3's listing, as document 01 prints it.
 pub t3-listed : Listing.listing 25 9 (bytes "a + b * 3") ≡ t3Listing
-unfolding Answer.tokensOf Answer.startsOf Answer.offsetOf Answer.spanOffset Answer.found Answer.readSpans Answer.readTokens Answer.readText Answer.rejection Answer.success Answer.over Answer.readingWords Answer.readInto Answer.read Answer.readingText Answer.writeInto Answer.canonicalizeInto Answer.canonicalize Blocks.bodyTable Blocks.checkItem Blocks.checkItems Blocks.checkBlocks Blocks.itemSpans Blocks.allItemSpans Blocks.spans Blocks.firstWithout Blocks.underBracket Blocks.underBlock Blocks.underOperator Blocks.hangItem Blocks.hang Blocks.hangFound Blocks.treeIn Blocks.treeOf Bytes.same Bytes.member Bytes.every Bytes.isEmpty Canonical.withoutZeros Canonical.orZero Canonical.strip Canonical.stripDeclaration Canonical.writtenName Canonical.writtenToken Canonical.fitted Canonical.canonical Canonical.spaced Canonical.joinTokens Canonical.canonicalText Coded.kindOf Coded.charactersIn Coded.tokenOf Coded.tokenAt Coded.tokensFrom Declaration.valueFrom Declaration.value Declaration.declare Declaration.declareAll Declaration.startDeclarations Declaration.start Declaration.fixityWord Declaration.associativityWord Declaration.declarationTokens Declaration.allTokens Declaration.isPrecedence Declaration.symbolOf Declaration.precedenceOf Declaration.isSemicolon Declaration.fixityNamed Declaration.associativityNamed Declaration.closed Declaration.operatorPart Declaration.precedencePart Declaration.associativityFor Declaration.associativityPart Declaration.firstWord Declaration.declaration Declaration.operatorPlace Declaration.checkedAt Declaration.hasRoom Declaration.enter Declaration.declarationsOf Declaration.declarations Listing.decimalIn Listing.decimal Listing.kindNames Listing.field Listing.nodeLines Listing.refusalLine Listing.canonicalLines Listing.readingLines Listing.listingOf Listing.listing Nesting.outermost Nesting.within Nesting.move Nesting.closeInnermost Nesting.nesting Nodes.leafKind Nodes.operatorKind Nodes.charactersOffset Nodes.characters Nodes.count Nodes.nodeWords Nodes.firstChild Nodes.secondChild Nodes.words Operator.sameFixity Operator.sameAssociativity Operator.allowed Operator.role Operator.isSome Operator.hasRole Operator.inForce Operator.replaced Operator.declareRole Operator.removeRoles Operator.onePrecedenceTest Operator.only Operator.absentRole Operator.besideInfix Operator.lawfulAssociativities Operator.lawful Operator.lawfulTable Operator.listed Outcome.andThen Outcome.placed Scan.run Scan.keywordOrSymbol Scan.atMost Scan.quotedName Scan.frontOf Scan.front Scan.before Scan.scan Search.firstRole Search.precedence Search.symbolAt Search.operatorAt Search.operatorOf Search.precedenceAt Search.widest Search.behind Search.firstOf Search.lastHere Search.lastOf Search.couldBeRight Search.rootIn Search.rootOf Search.joined Search.lone Search.partTree Search.treeOfSpan Span.itemTokens Span.effect Span.isIn Span.beforeIn Span.afterIn Span.item Span.itemsFrom Span.items SpanTree.yield SpanTree.present SpanTree.fixityBy SpanTree.fixity SpanTree.root SpanTree.rootPrecedence SpanTree.isLeft SpanTree.isRight SpanTree.rightRoot SpanTree.admitsEqual SpanTree.admits SpanTree.admitsBoth SpanTree.isOperandToken SpanTree.isOperand Spelling.continues Token.class Token.isBlankByte Token.beginsWord Token.inWord Token.inSign Token.inNumber Token.inQuotes Token.spelling Token.isKeyword Token.isWord Token.isSign Token.isNumber Token.isSymbol Tree.flat Tree.spanTree
-t3-listed = refl
+t3-listed = computed .1
 
 -- The listing of each recorded case.
 pub cases-hold : map (λ c. Listing.listing 1000 2000 (c .text)) cases ≡ map (λ c. c .listing) cases
-unfolding Answer.tokensOf Answer.startsOf Answer.offsetOf Answer.spanOffset Answer.found Answer.readSpans Answer.readTokens Answer.readText Answer.rejection Answer.success Answer.over Answer.readingWords Answer.readInto Answer.read Answer.readingText Answer.writeInto Answer.canonicalizeInto Answer.canonicalize Blocks.bodyTable Blocks.checkItem Blocks.checkItems Blocks.checkBlocks Blocks.itemSpans Blocks.allItemSpans Blocks.spans Blocks.firstWithout Blocks.underBracket Blocks.underBlock Blocks.underOperator Blocks.hangItem Blocks.hang Blocks.hangFound Blocks.treeIn Blocks.treeOf Bytes.same Bytes.member Bytes.every Bytes.isEmpty Canonical.withoutZeros Canonical.orZero Canonical.strip Canonical.stripDeclaration Canonical.writtenName Canonical.writtenToken Canonical.fitted Canonical.canonical Canonical.spaced Canonical.joinTokens Canonical.canonicalText Coded.kindOf Coded.charactersIn Coded.tokenOf Coded.tokenAt Coded.tokensFrom Declaration.valueFrom Declaration.value Declaration.declare Declaration.declareAll Declaration.startDeclarations Declaration.start Declaration.fixityWord Declaration.associativityWord Declaration.declarationTokens Declaration.allTokens Declaration.isPrecedence Declaration.symbolOf Declaration.precedenceOf Declaration.isSemicolon Declaration.fixityNamed Declaration.associativityNamed Declaration.closed Declaration.operatorPart Declaration.precedencePart Declaration.associativityFor Declaration.associativityPart Declaration.firstWord Declaration.declaration Declaration.operatorPlace Declaration.checkedAt Declaration.hasRoom Declaration.enter Declaration.declarationsOf Declaration.declarations Listing.decimalIn Listing.decimal Listing.kindNames Listing.field Listing.nodeLines Listing.refusalLine Listing.canonicalLines Listing.readingLines Listing.listingOf Listing.listing Nesting.outermost Nesting.within Nesting.move Nesting.closeInnermost Nesting.nesting Nodes.leafKind Nodes.operatorKind Nodes.charactersOffset Nodes.characters Nodes.count Nodes.nodeWords Nodes.firstChild Nodes.secondChild Nodes.words Operator.sameFixity Operator.sameAssociativity Operator.allowed Operator.role Operator.isSome Operator.hasRole Operator.inForce Operator.replaced Operator.declareRole Operator.removeRoles Operator.onePrecedenceTest Operator.only Operator.absentRole Operator.besideInfix Operator.lawfulAssociativities Operator.lawful Operator.lawfulTable Operator.listed Outcome.andThen Outcome.placed Scan.run Scan.keywordOrSymbol Scan.atMost Scan.quotedName Scan.frontOf Scan.front Scan.before Scan.scan Search.firstRole Search.precedence Search.symbolAt Search.operatorAt Search.operatorOf Search.precedenceAt Search.widest Search.behind Search.firstOf Search.lastHere Search.lastOf Search.couldBeRight Search.rootIn Search.rootOf Search.joined Search.lone Search.partTree Search.treeOfSpan Span.itemTokens Span.effect Span.isIn Span.beforeIn Span.afterIn Span.item Span.itemsFrom Span.items SpanTree.yield SpanTree.present SpanTree.fixityBy SpanTree.fixity SpanTree.root SpanTree.rootPrecedence SpanTree.isLeft SpanTree.isRight SpanTree.rightRoot SpanTree.admitsEqual SpanTree.admits SpanTree.admitsBoth SpanTree.isOperandToken SpanTree.isOperand Spelling.continues Token.class Token.isBlankByte Token.beginsWord Token.inWord Token.inSign Token.inNumber Token.inQuotes Token.spelling Token.isKeyword Token.isWord Token.isSign Token.isNumber Token.isSymbol Tree.flat Tree.spanTree
-cases-hold = refl
+cases-hold = computed .2
 
 -- The answers at each limit and one past it.
 pub limits-hold : map Limits.given limits ≡ map Limits.asked limits
-unfolding Answer.tokensOf Answer.startsOf Answer.offsetOf Answer.spanOffset Answer.found Answer.readSpans Answer.readTokens Answer.readText Answer.rejection Answer.success Answer.over Answer.readingWords Answer.readInto Answer.read Answer.readingText Answer.writeInto Answer.canonicalizeInto Answer.canonicalize Blocks.bodyTable Blocks.checkItem Blocks.checkItems Blocks.checkBlocks Blocks.itemSpans Blocks.allItemSpans Blocks.spans Blocks.firstWithout Blocks.underBracket Blocks.underBlock Blocks.underOperator Blocks.hangItem Blocks.hang Blocks.hangFound Blocks.treeIn Blocks.treeOf Bytes.same Bytes.member Bytes.every Bytes.isEmpty Canonical.withoutZeros Canonical.orZero Canonical.strip Canonical.stripDeclaration Canonical.writtenName Canonical.writtenToken Canonical.fitted Canonical.canonical Canonical.spaced Canonical.joinTokens Canonical.canonicalText Coded.kindOf Coded.charactersIn Coded.tokenOf Coded.tokenAt Coded.tokensFrom Declaration.valueFrom Declaration.value Declaration.declare Declaration.declareAll Declaration.startDeclarations Declaration.start Declaration.fixityWord Declaration.associativityWord Declaration.declarationTokens Declaration.allTokens Declaration.isPrecedence Declaration.symbolOf Declaration.precedenceOf Declaration.isSemicolon Declaration.fixityNamed Declaration.associativityNamed Declaration.closed Declaration.operatorPart Declaration.precedencePart Declaration.associativityFor Declaration.associativityPart Declaration.firstWord Declaration.declaration Declaration.operatorPlace Declaration.checkedAt Declaration.hasRoom Declaration.enter Declaration.declarationsOf Declaration.declarations Listing.decimalIn Listing.decimal Listing.kindNames Listing.field Listing.nodeLines Listing.refusalLine Listing.canonicalLines Listing.readingLines Listing.listingOf Listing.listing Nesting.outermost Nesting.within Nesting.move Nesting.closeInnermost Nesting.nesting Nodes.leafKind Nodes.operatorKind Nodes.charactersOffset Nodes.characters Nodes.count Nodes.nodeWords Nodes.firstChild Nodes.secondChild Nodes.words Operator.sameFixity Operator.sameAssociativity Operator.allowed Operator.role Operator.isSome Operator.hasRole Operator.inForce Operator.replaced Operator.declareRole Operator.removeRoles Operator.onePrecedenceTest Operator.only Operator.absentRole Operator.besideInfix Operator.lawfulAssociativities Operator.lawful Operator.lawfulTable Operator.listed Outcome.andThen Outcome.placed Scan.run Scan.keywordOrSymbol Scan.atMost Scan.quotedName Scan.frontOf Scan.front Scan.before Scan.scan Search.firstRole Search.precedence Search.symbolAt Search.operatorAt Search.operatorOf Search.precedenceAt Search.widest Search.behind Search.firstOf Search.lastHere Search.lastOf Search.couldBeRight Search.rootIn Search.rootOf Search.joined Search.lone Search.partTree Search.treeOfSpan Span.itemTokens Span.effect Span.isIn Span.beforeIn Span.afterIn Span.item Span.itemsFrom Span.items SpanTree.yield SpanTree.present SpanTree.fixityBy SpanTree.fixity SpanTree.root SpanTree.rootPrecedence SpanTree.isLeft SpanTree.isRight SpanTree.rightRoot SpanTree.admitsEqual SpanTree.admits SpanTree.admitsBoth SpanTree.isOperandToken SpanTree.isOperand Spelling.continues Token.class Token.isBlankByte Token.beginsWord Token.inWord Token.inSign Token.inNumber Token.inQuotes Token.spelling Token.isKeyword Token.isWord Token.isSign Token.isNumber Token.isSymbol Tree.flat Tree.spanTree limits Limits.repeated Limits.declared Limits.longNames
-limits-hold = refl
+limits-hold = computed .3

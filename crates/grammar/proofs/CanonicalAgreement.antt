@@ -7,67 +7,22 @@ use mathlib.Core.Option.{Option}
 use lib.Dec.{leb}
 use lib.ListN.{length}
 use Rattle.grammar.specs.Bytes.{Bytes}
-use Rattle.grammar.specs.Token.{
-  Token,
-  symbol,
-  number,
-  quoted,
-  opening,
-  closing,
-  semicolon,
-  keywordLet,
-  keywordIn,
-  keywordEnd,
-  isNumber,
-  longestNumber,
-  isToken,
-  areTokens,
-}
+use Rattle.grammar.specs.Token.{atom, symbol, number, quoted, isNumber, longestNumber, isToken, areTokens, Atom}
 use Rattle.grammar.specs.Operator.{Role, Table}
-use Rattle.grammar.specs.Declaration.{
-  Declaration,
-  declares,
-  clears,
-  value,
-  declareAll,
-  declarationTokens,
-  allTokens,
-}
-use Rattle.grammar.specs.SpanTree.{present, fixityBy, fixity, Position, onLeft, onRight, Admitted}
-use Rattle.grammar.specs.Tree.{Tree, nothing, leaf, bracket, block, node, flat, spanTree, InnerOk}
-use Rattle.grammar.specs.Abstract.{
-  Content,
-  name,
-  numeral,
-  noOperand,
-  content,
-  change,
-  AbstractTree,
-  absent,
-  one,
-  under,
-  operation,
-  abstract,
-}
-use Rattle.grammar.specs.Canonical.{strip, stripDeclaration, writtenName, writtenToken, fitted, canonical}
-use Rattle.grammar.proofs.Logic.{and-left, clash}
-use Rattle.grammar.proofs.Positive.{Positive}
-use Rattle.grammar.proofs.Plain.{isContent, Plain}
+use Rattle.grammar.specs.Declaration.{Declaration, declares, clears, value, declareAll, declarationTokens, allTokens}
+use Rattle.grammar.specs.SpanTree.{present, fixityBy, fixity, Position, onLeft, onRight, roleOver}
+use Rattle.grammar.specs.Tree.{Tree, nothing, leaf, bracket, block, node, flat, spanTree}
+use Rattle.grammar.specs.Abstract.{Content, name, numeral, content, change, AbstractTree, absent, one, under, operation, abstract}
+use Rattle.grammar.specs.Canonical.{strip, stripDeclaration, writtenName, writtenAtom, fitted, canonical}
+use Rattle.grammar.proofs.CheckedTrees.{InnerChecked}
+use Rattle.grammar.proofs.Logic.{and-left}
 use Rattle.grammar.proofs.Numbers.{value-strip, strip-equal}
 use Rattle.grammar.proofs.StripDeclarations.{NumbersOk, declare-strip, change-strip, strip-by-change}
-use Rattle.grammar.proofs.CanonicalTree.{fitted-by, written-by, over, canonical-ok}
-use Rattle.grammar.proofs.CanonicalTokens.{
-  tokens-split,
-  leaf-token,
-  inside-tokens,
-  block-tokens,
-  node-tokens,
-  declared-parts,
-  canonical-tokens,
-}
+use Rattle.grammar.proofs.CanonicalTree.{fitted-by, written-by, over}
+use Rattle.grammar.proofs.CanonicalTokens.{tokens-split, leaf-token, inside-tokens, block-tokens, node-tokens, declared-parts}
 
 -- A leaf as it is written means the same.
-written-content : (T : Table) (t : Token) → content (writtenToken T t) ≡ content t
+written-content : (T : Table) (a : Atom) → content (writtenAtom T a) ≡ content a
 unfolding content
 written-content T =
     written-by (λ x y. content y ≡ content x) T (λ x. refl) (λ c e. refl) (λ c e. refl) (λ d. ap numeral (value-strip d))
@@ -90,16 +45,10 @@ canonical-agrees T (node l m r) =
 
 -- Leaves are names, and numbers written in digits, as in declarations; and no bracket is empty: an empty one, taken out, would
 -- leave its operator another fixity.
-unfoldable pub isLeaf : Token → Bool
+unfoldable pub isLeaf : Atom → Bool
 isLeaf (symbol w) = true
 isLeaf (number d) = isNumber d
 isLeaf (quoted c) = true
-isLeaf opening = false
-isLeaf closing = false
-isLeaf semicolon = false
-isLeaf keywordLet = false
-isLeaf keywordIn = false
-isLeaf keywordEnd = false
 
 abbrev pub LeavesOk : Tree → Type 0
 LeavesOk nothing = Unit {0}
@@ -108,21 +57,15 @@ LeavesOk (bracket t) = (present (spanTree t) ≡ true) × LeavesOk t
 LeavesOk (block ds t) = NumbersOk ds × LeavesOk t
 LeavesOk (node l m r) = LeavesOk l × LeavesOk r
 
-is-number : (d : Bytes) → isToken (number d) ≡ true → isNumber d ≡ true
+is-number : (d : Bytes) → isToken (atom (number d)) ≡ true → isNumber d ≡ true
 unfolding isToken
 is-number d e = and-left (isNumber d) (leb (length d) longestNumber) e
 
-leaf-ok : (t : Token) → isContent t ≡ true → isToken t ≡ true → isLeaf t ≡ true
-unfolding isContent isToken isLeaf
-leaf-ok (symbol w) c e = refl
-leaf-ok (number d) c e = is-number d e
-leaf-ok (quoted w) c e = refl
-leaf-ok opening c e = c
-leaf-ok closing c e = c
-leaf-ok semicolon c e = c
-leaf-ok keywordLet c e = c
-leaf-ok keywordIn c e = c
-leaf-ok keywordEnd c e = c
+leaf-ok : (a : Atom) → isToken (atom a) ≡ true → isLeaf a ≡ true
+unfolding isLeaf
+leaf-ok (symbol w) e = refl
+leaf-ok (number d) e = is-number d e
+leaf-ok (quoted w) e = refl
 
 numbers-ok : (ds : List Declaration) → areTokens (allTokens ds) ≡ true → NumbersOk ds
 unfolding allTokens
@@ -133,16 +76,16 @@ numbers-ok (declares f a d m ∷ ds) e =
 numbers-ok (clears m ∷ ds) e = numbers-ok ds (tokens-split (declarationTokens (clears m)) (allTokens ds) e .1)
 
 -- So it is in a tree of tokens.
-pub leaves-ok : (T : Table) (t : Tree) → InnerOk T t → Plain t → areTokens (flat t) ≡ true → LeavesOk t
-leaves-ok T nothing i p e = tt
-leaves-ok T (leaf t) i p e = leaf-ok t p (leaf-token t e)
-leaves-ok T (bracket t) i p e = (i .0 .1, leaves-ok T t (i .1) p (inside-tokens t e))
-leaves-ok T (block ds t) i p e =
+pub leaves-ok : (T : Table) (t : Tree) → InnerChecked T t → areTokens (flat t) ≡ true → LeavesOk t
+leaves-ok T nothing i e = tt
+leaves-ok T (leaf a) i e = leaf-ok a (leaf-token a e)
+leaves-ok T (bracket t) i e = (i .0 .1, leaves-ok T t (i .1) (inside-tokens t e))
+leaves-ok T (block ds t) i e =
     let parts = block-tokens ds t e in
-    (numbers-ok ds (parts .0), leaves-ok (declareAll T ds) t (i .3) p (parts .1))
-leaves-ok T (node l m r) i p e =
+    (numbers-ok ds (parts .0), leaves-ok (declareAll T ds) t (i .3) (parts .1))
+leaves-ok T (node l m r) i e =
     let parts = node-tokens l m r e in
-    (leaves-ok T l (i .0) (p .0) (parts .0), leaves-ok T r (i .1) (p .1) (parts .2))
+    (leaves-ok T l (i .0) (parts .0), leaves-ok T r (i .1) (parts .2))
 
 -- An abstract tree says what is there.
 there : AbstractTree → Bool
@@ -163,7 +106,6 @@ present-there (node l m r) h = refl
 abbrev WritesLeaf : Table → Content → Tree → Type 0
 WritesLeaf T (name w) c = c ≡ leaf (writtenName T w)
 WritesLeaf T (numeral n) c = (d : Bytes) × (isNumber d ≡ true) × (value d ≡ n) × (c ≡ leaf (number (strip d)))
-WritesLeaf T noOperand c = ⊥
 
 abbrev Writes : Table → AbstractTree → Tree → Type 0
 Writes T absent c = c ≡ nothing
@@ -174,20 +116,14 @@ Writes T (under cs a) c =
 Writes T (operation a m b) c =
     (l : Tree) × (r : Tree) × Writes T a l × Writes T b r × (c ≡ over T m (fixityBy (there a) (there b)) l r)
 
-writes-leaf : (T : Table) (t : Token) → isLeaf t ≡ true → WritesLeaf T (content t) (leaf (writtenToken T t))
-unfolding isLeaf content writtenToken
+writes-leaf : (T : Table) (a : Atom) → isLeaf a ≡ true → WritesLeaf T (content a) (leaf (writtenAtom T a))
+unfolding isLeaf content writtenAtom
 writes-leaf T (symbol w) h = refl
 writes-leaf T (number d) h = (d, h, refl, refl)
 writes-leaf T (quoted c) h = refl
-writes-leaf T opening h = clash h refl
-writes-leaf T closing h = clash h refl
-writes-leaf T semicolon h = clash h refl
-writes-leaf T keywordLet h = clash h refl
-writes-leaf T keywordIn h = clash h refl
-writes-leaf T keywordEnd h = clash h refl
 
 writes : (T : Table) (t : Tree) → LeavesOk t → Writes T (abstract t) (canonical T t)
-unfolding canonical abstract fixity
+unfolding canonical abstract roleOver fixity
 writes T nothing h = refl
 writes T (leaf t) h = writes-leaf T t h
 writes T (bracket t) h = writes T t (h .1)
@@ -204,7 +140,6 @@ writes-one : (T : Table) (k : Content) (c d : Tree) → WritesLeaf T k c → Wri
 writes-one T (name w) c d p q = p ∙ sym q
 writes-one T (numeral n) c d p q =
     p .3 ∙ ap (λ x. leaf (number x)) (strip-equal (p .0) (q .0) (p .1) (q .1) (p .2 ∙ sym (q .2))) ∙ sym (q .3)
-writes-one T noOperand c d p q = absurd p
 
 only-one : (T : Table) (a : AbstractTree) (c d : Tree) → Writes T a c → Writes T a d → c ≡ d
 only-one T absent c d p q = p ∙ sym q
@@ -224,30 +159,3 @@ pub canonical-by-agreement :
     (T : Table) (t u : Tree) → LeavesOk t → LeavesOk u → abstract t ≡ abstract u → canonical T t ≡ canonical T u
 canonical-by-agreement T t u p q e =
     only-one T (abstract u) _ _ (subst (λ a. Writes T a (canonical T t)) e (writes T t p)) (writes T u q)
-
--- The leaves of the canonical tree are names and numbers.
-written-plain : (T : Table) (t : Token) → isContent t ≡ true → isContent (writtenToken T t) ≡ true
-unfolding isContent
-written-plain T =
-    written-by (λ x y. isContent x ≡ true → isContent y ≡ true) T (λ x h. h) (λ c e h. refl) (λ c e h. refl) (λ d h. refl)
-
-pub canonical-plain : (T : Table) (t : Tree) → Plain t → Plain (canonical T t)
-unfolding canonical
-canonical-plain T nothing h = tt
-canonical-plain T (leaf t) h = written-plain T t h
-canonical-plain T (bracket t) h = canonical-plain T t h
-canonical-plain T (block ds t) h = canonical-plain (declareAll T ds) t h
-canonical-plain T (node l m r) h = (
-  fitted-by Plain T onLeft _ (canonical T l) (λ e. canonical-plain T l (h .0)) (λ e. canonical-plain T l (h .0)),
-  fitted-by Plain T onRight _ (canonical T r) (λ e. canonical-plain T r (h .1)) (λ e. canonical-plain T r (h .1)),
-)
-
--- A canonical tree is its own canonical tree.
-pub canonical-twice :
-    (T : Table) (t : Tree) → Positive T → Admitted T (spanTree t) → InnerOk T t → Plain t → areTokens (flat t) ≡ true
-    → canonical T (canonical T t) ≡ canonical T t
-canonical-twice T t p a i c e =
-    canonical-by-agreement T (canonical T t) t
-    (leaves-ok T (canonical T t) (canonical-ok T t p a i .1) (canonical-plain T t c) (canonical-tokens T t a i e))
-    (leaves-ok T t i c e)
-    (canonical-agrees T t)

@@ -9,12 +9,13 @@ use native.Mathlib.Nat.{le-refl, le-trans}
 use native.Mathlib.Omega.{arith}
 use lib.ListN.{length, length-append}
 use Rattle.grammar.specs.Bytes.{Bytes}
-use Rattle.grammar.specs.Token.{Token}
-use Rattle.grammar.specs.Operator.{Role, Table, role}
+use Rattle.grammar.specs.Token.{Atom}
+use Rattle.grammar.specs.Operator.{Role, Table}
 use Rattle.grammar.specs.Declaration.{Declaration, declares, clears, declareAll, declarationTokens, allTokens}
-use Rattle.grammar.specs.SpanTree.{root, fixity, Position, onLeft, onRight, Admitted}
-use Rattle.grammar.specs.Tree.{Tree, nothing, leaf, bracket, block, node, flat, depth, spanTree, InnerOk}
-use Rattle.grammar.specs.Canonical.{stripDeclaration, writtenToken, fitted, canonical, refuses}
+use Rattle.grammar.specs.SpanTree.{root, Position, onLeft, onRight, Admitted, roleOver}
+use Rattle.grammar.specs.Tree.{Tree, nothing, leaf, bracket, block, node, flat, depth, spanTree}
+use Rattle.grammar.specs.Canonical.{stripDeclaration, writtenAtom, fitted, canonical, refuses}
+use Rattle.grammar.proofs.CheckedTrees.{InnerChecked}
 use Rattle.grammar.proofs.Logic.{clash}
 use Rattle.grammar.proofs.Positive.{Positive}
 use Rattle.grammar.proofs.Operators.{positive-declared}
@@ -23,7 +24,7 @@ use Rattle.grammar.proofs.CanonicalTree.{fitted-by, both-admitted, cano
 -- A measure of trees that a bracket does not lower, that follows the parts of a tree, and for which it does not matter how a leaf
 -- or a declaration is written.
 record Measure (μ : Tree → ℕ) : Type 0 where
-  atLeaf : (x y : Token) → μ (leaf x) ≤ μ (leaf y)
+  atLeaf : (x y : Atom) → μ (leaf x) ≤ μ (leaf y)
   bracketed : (t : Tree) → μ t ≤ μ (bracket t)
   inBracket : (t u : Tree) → μ t ≤ μ u → μ (bracket t) ≤ μ (bracket u)
   inBlock : (ds : List Declaration) (t u : Tree) → μ t ≤ μ u → μ (block (map stripDeclaration ds) t) ≤ μ (block ds u)
@@ -46,11 +47,11 @@ module _ (μ : Tree → ℕ) (measure : Measure μ) where
 
   -- Of a tree at a place that does not refuse it; `none` is the place of a whole span.
   fitted-smaller :
-      (T : Table) (t : Tree) → Positive T → Admitted T (spanTree t) → InnerOk T t
+      (T : Table) (t : Tree) → Positive T → Admitted T (spanTree t) → InnerChecked T t
       → (s : Position) (o : Option Role) → refuses s o (root T (spanTree t)) ≡ false → μ (fitted T s o (canonical T t)) ≤ μ t
   unfolding canonical spanTree root refuses fitted
   fitted-smaller T nothing p a i s o f = unwrapped-smaller T s o nothing nothing refl f (le-refl (μ nothing))
-  fitted-smaller T (leaf t) p a i s o f = unwrapped-smaller T s o (leaf t) (leaf (writtenToken T t)) refl f (measure .atLeaf _ _)
+  fitted-smaller T (leaf t) p a i s o f = unwrapped-smaller T s o (leaf t) (leaf (writtenAtom T t)) refl f (measure .atLeaf _ _)
   fitted-smaller T (bracket t) p a i s o f =
       wrapped-smaller T s o t (canonical T t) (fitted-smaller T t p (i .0 .0) (i .1) s none refl)
   fitted-smaller T (block ds t) p a i s o f =
@@ -58,13 +59,13 @@ module _ (μ : Tree → ℕ) (measure : Measure μ) where
       (measure .inBlock ds _ _
       (fitted-smaller (declareAll T ds) t (positive-declared T ds p (i .0)) (i .2 .0) (i .3) s none refl))
   fitted-smaller T (node l m r) p a i s o f =
-      let k = both-admitted (role T m (fixity (spanTree l) (spanTree r))) _ _ (a .3) in
+      let k = both-admitted (roleOver T (spanTree l) m (spanTree r)) _ _ (a .2) in
       unwrapped-smaller T s o (node l m r) (canonical T (node l m r)) (canonical-root T l m r p i) f
       (measure .inNode m _ l _ r
-      (fitted-smaller T l p (a .0) (i .0) onLeft (role T m (fixity (spanTree l) (spanTree r))) (k .1))
-      (fitted-smaller T r p (a .1) (i .1) onRight (role T m (fixity (spanTree l) (spanTree r))) (k .2)))
+      (fitted-smaller T l p (a .0) (i .0) onLeft (roleOver T (spanTree l) m (spanTree r)) (k .1))
+      (fitted-smaller T r p (a .1) (i .1) onRight (roleOver T (spanTree l) m (spanTree r)) (k .2)))
 
-  smaller : (T : Table) (t : Tree) → Positive T → Admitted T (spanTree t) → InnerOk T t → μ (canonical T t) ≤ μ t
+  smaller : (T : Table) (t : Tree) → Positive T → Admitted T (spanTree t) → InnerChecked T t → μ (canonical T t) ≤ μ t
   unfolding fitted refuses
   smaller T t p a i = fitted-smaller T t p a i onLeft none refl
 
@@ -98,10 +99,10 @@ depth-measure =
 
 -- The canonical text has no more tokens,
 pub canonical-shorter :
-    (T : Table) (t : Tree) → Positive T → Admitted T (spanTree t) → InnerOk T t → length (flat (canonical T t)) ≤ length (flat t)
+    (T : Table) (t : Tree) → Positive T → Admitted T (spanTree t) → InnerChecked T t → length (flat (canonical T t)) ≤ length (flat t)
 canonical-shorter = smaller (λ t. length (flat t)) length-measure
 
 -- and no deeper.
 pub canonical-shallower :
-    (T : Table) (t : Tree) → Positive T → Admitted T (spanTree t) → InnerOk T t → depth (canonical T t) ≤ depth t
+    (T : Table) (t : Tree) → Positive T → Admitted T (spanTree t) → InnerChecked T t → depth (canonical T t) ≤ depth t
 canonical-shallower = smaller depth depth-measure

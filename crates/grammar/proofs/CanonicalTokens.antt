@@ -10,6 +10,8 @@ use lib.ListN.{length}
 use borrow.Author.Tests.{leb-true, le-leb}
 use Rattle.grammar.specs.Bytes.{Bytes}
 use Rattle.grammar.specs.Token.{
+  atom,
+  structure,
   Token,
   symbol,
   number,
@@ -22,6 +24,7 @@ use Rattle.grammar.specs.Token.{
   isSymbol,
   isToken,
   areTokens,
+  Atom,
 }
 use Rattle.grammar.specs.Operator.{Fixity, Associativity, Role, Table, inForce}
 use Rattle.grammar.specs.Declaration.{
@@ -34,9 +37,10 @@ use Rattle.grammar.specs.Declaration.{
   declarationTokens,
   allTokens,
 }
-use Rattle.grammar.specs.SpanTree.{Position, onLeft, onRight, isOperandToken, isOperand, Admitted}
-use Rattle.grammar.specs.Tree.{Tree, nothing, leaf, bracket, block, node, flat, spanTree, InnerOk}
-use Rattle.grammar.specs.Canonical.{strip, stripDeclaration, writtenToken, fitted, canonical}
+use Rattle.grammar.specs.SpanTree.{Position, onLeft, onRight, isOperandAtom, isOperand, Admitted}
+use Rattle.grammar.specs.Tree.{Tree, nothing, leaf, bracket, block, node, flat, spanTree}
+use Rattle.grammar.specs.Canonical.{strip, stripDeclaration, writtenAtom, fitted, canonical}
+use Rattle.grammar.proofs.CheckedTrees.{InnerChecked}
 use Rattle.grammar.proofs.Logic.{and-left, and-right, and-intro, clash}
 use Rattle.grammar.proofs.Numbers.{strip-number, strip-shorter}
 use Rattle.grammar.proofs.CanonicalTree.{fitted-by, written-by}
@@ -56,66 +60,66 @@ tokens-split (x ∷ xs) ys e =
     (and-intro (and-left (isToken x) (areTokens (xs ++ ys)) e) (rest .0), rest .1)
 
 -- The tokens of a tree and those of its parts.
-pub leaf-token : (t : Token) → areTokens (flat (leaf t)) ≡ true → isToken t ≡ true
+pub leaf-token : (a : Atom) → areTokens (flat (leaf a)) ≡ true → isToken (atom a) ≡ true
 unfolding flat areTokens
-leaf-token t e = and-left (isToken t) true e
+leaf-token a e = and-left (isToken (atom a)) true e
 
-leaf-tokens : (t : Token) → isToken t ≡ true → areTokens (flat (leaf t)) ≡ true
+leaf-tokens : (a : Atom) → isToken (atom a) ≡ true → areTokens (flat (leaf a)) ≡ true
 unfolding flat areTokens
-leaf-tokens t e = and-intro e refl
+leaf-tokens a e = and-intro e refl
 
 pub inside-tokens : (t : Tree) → areTokens (flat (bracket t)) ≡ true → areTokens (flat t) ≡ true
 unfolding flat areTokens isToken
-inside-tokens t e = tokens-split (flat t) (closing ∷ []) e .0
+inside-tokens t e = tokens-split (flat t) (structure closing ∷ []) e .0
 
 tokens-bracket : (t : Tree) → areTokens (flat t) ≡ true → areTokens (flat (bracket t)) ≡ true
 unfolding flat areTokens isToken
-tokens-bracket t e = tokens-join (flat t) (closing ∷ []) e refl
+tokens-bracket t e = tokens-join (flat t) (structure closing ∷ []) e refl
 
 pub block-tokens :
     (ds : List Declaration) (t : Tree) → areTokens (flat (block ds t)) ≡ true
     → (areTokens (allTokens ds) ≡ true) × (areTokens (flat t) ≡ true)
 unfolding flat areTokens isToken
 block-tokens ds t e =
-    tokens-split (allTokens ds) (keywordIn ∷ flat t) (tokens-split (allTokens ds ++ keywordIn ∷ flat t) (keywordEnd ∷ []) e .0)
+    tokens-split (allTokens ds) (structure keywordIn ∷ flat t) (tokens-split (allTokens ds ++ structure keywordIn ∷ flat t) (structure keywordEnd ∷ []) e .0)
 
 tokens-block :
     (ds : List Declaration) (t : Tree) → areTokens (allTokens ds) ≡ true → areTokens (flat t) ≡ true
     → areTokens (flat (block ds t)) ≡ true
 unfolding flat areTokens isToken
 tokens-block ds t e f =
-    tokens-join (allTokens ds ++ keywordIn ∷ flat t) (keywordEnd ∷ []) (tokens-join (allTokens ds) (keywordIn ∷ flat t) e f) refl
+    tokens-join (allTokens ds ++ structure keywordIn ∷ flat t) (structure keywordEnd ∷ []) (tokens-join (allTokens ds) (structure keywordIn ∷ flat t) e f) refl
 
 pub node-tokens :
     (l : Tree) (m : Bytes) (r : Tree) → areTokens (flat (node l m r)) ≡ true
     → (areTokens (flat l) ≡ true) × (isSymbol m ≡ true) × (areTokens (flat r) ≡ true)
 unfolding flat areTokens isToken
 node-tokens l m r e =
-    let parts = tokens-split (flat l) (symbol m ∷ flat r) e in
+    let parts = tokens-split (flat l) (atom (symbol m) ∷ flat r) e in
     (parts .0, and-left _ (areTokens (flat r)) (parts .1), and-right (isSymbol m) _ (parts .1))
 
 tokens-node :
     (l : Tree) (m : Bytes) (r : Tree) → areTokens (flat l) ≡ true → isSymbol m ≡ true → areTokens (flat r) ≡ true
     → areTokens (flat (node l m r)) ≡ true
 unfolding flat areTokens isToken
-tokens-node l m r e f g = tokens-join (flat l) (symbol m ∷ flat r) e (and-intro f g)
+tokens-node l m r e f g = tokens-join (flat l) (atom (symbol m) ∷ flat r) e (and-intro f g)
 
 fitted-tokens :
     (T : Table) (s : Position) (o : Option Role) (t : Tree) → areTokens (flat t) ≡ true → areTokens (flat (fitted T s o t)) ≡ true
 fitted-tokens T s o t h = fitted-by (λ u. areTokens (flat u) ≡ true) T s o t (λ e. h) (λ e. tokens-bracket t h)
 
 -- Names and numbers as they are written.
-number-token : (d : Bytes) → isToken (number d) ≡ true → isToken (number (strip d)) ≡ true
+number-token : (d : Bytes) → isToken (atom (number d)) ≡ true → isToken (atom (number (strip d))) ≡ true
 unfolding isToken
 number-token d e =
     let n : isNumber d ≡ true = and-left _ (leb (length d) longestNumber) e in
     let short : leb (length d) longestNumber ≡ true = and-right (isNumber d) _ e in
     and-intro (strip-number d n) (le-leb _ _ (le-trans (strip-shorter d n) (leb-true (length d) longestNumber short)))
 
-written-token : (T : Table) (t : Token) → isOperandToken T t ≡ true → isToken t ≡ true → isToken (writtenToken T t) ≡ true
-unfolding isOperandToken isToken
+written-token : (T : Table) (a : Atom) → isOperandAtom T a ≡ true → isToken (atom a) ≡ true → isToken (atom (writtenAtom T a)) ≡ true
+unfolding isOperandAtom isToken
 written-token T =
-    written-by (λ x y. isOperandToken T x ≡ true → isToken x ≡ true → isToken y ≡ true) T
+    written-by (λ x y. isOperandAtom T x ≡ true → isToken (atom x) ≡ true → isToken (atom y) ≡ true) T
     (λ x o e. e)
     (λ c f o e. absurd (clash (and-intro e o) f))
     (λ c f o e. and-left (isSymbol c) (not (inForce T c)) f)
@@ -124,18 +128,18 @@ written-token T =
 -- Declarations as they are written: around the number of one there are words and a semicolon.
 module _ (f : Fixity) (a : Associativity) (m : Bytes) where
   abbrev front : List Token
-  front = symbol (fixityWord f) ∷ symbol (associativityWord a) ∷ []
+  front = atom (symbol (fixityWord f)) ∷ atom (symbol (associativityWord a)) ∷ []
 
   abbrev back : List Token
-  back = symbol m ∷ semicolon ∷ []
+  back = atom (symbol m) ∷ structure semicolon ∷ []
 
   pub declared-parts :
       (d : Bytes) → areTokens (declarationTokens (declares f a d m)) ≡ true
-      → (areTokens front ≡ true) × (isToken (number d) ≡ true) × (areTokens back ≡ true)
+      → (areTokens front ≡ true) × (isToken (atom (number d)) ≡ true) × (areTokens back ≡ true)
   unfolding declarationTokens areTokens
   declared-parts d e =
-      let parts = tokens-split front (number d ∷ back) e in
-      (parts .0, and-left _ (areTokens back) (parts .1), and-right (isToken (number d)) _ (parts .1))
+      let parts = tokens-split front (atom (number d) ∷ back) e in
+      (parts .0, and-left _ (areTokens back) (parts .1), and-right (isToken (atom (number d))) _ (parts .1))
 
   declared-tokens :
       (d : Bytes) → areTokens (declarationTokens (declares f a d m)) ≡ true
@@ -143,7 +147,7 @@ module _ (f : Fixity) (a : Associativity) (m : Bytes) where
   unfolding declarationTokens areTokens
   declared-tokens d e =
       let parts = declared-parts d e in
-      tokens-join front (number (strip d) ∷ back) (parts .0) (and-intro (number-token d (parts .1)) (parts .2))
+      tokens-join front (atom (number (strip d)) ∷ back) (parts .0) (and-intro (number-token d (parts .1)) (parts .2))
 
 declarations-tokens :
     (ds : List Declaration) → areTokens (allTokens ds) ≡ true → areTokens (allTokens (map stripDeclaration ds)) ≡ true
@@ -160,11 +164,11 @@ declarations-tokens (clears m ∷ ds) e =
 
 -- The tokens of the canonical text are tokens.
 pub canonical-tokens :
-    (T : Table) (t : Tree) → Admitted T (spanTree t) → InnerOk T t → areTokens (flat t) ≡ true
+    (T : Table) (t : Tree) → Admitted T (spanTree t) → InnerChecked T t → areTokens (flat t) ≡ true
     → areTokens (flat (canonical T t)) ≡ true
 unfolding canonical spanTree isOperand
 canonical-tokens T nothing a i e = e
-canonical-tokens T (leaf t) a i e = leaf-tokens (writtenToken T t) (written-token T t a (leaf-token t e))
+canonical-tokens T (leaf t) a i e = leaf-tokens (writtenAtom T t) (written-token T t a (leaf-token t e))
 canonical-tokens T (bracket t) a i e = canonical-tokens T t (i .0 .0) (i .1) (inside-tokens t e)
 canonical-tokens T (block ds t) a i e =
     let parts = block-tokens ds t e in

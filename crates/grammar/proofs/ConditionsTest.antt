@@ -36,7 +36,7 @@ use Rattle.grammar.specs.Operator.{
   lawful,
   lawfulTable,
 }
-use Rattle.grammar.specs.Declaration.{value, valueFrom, declare, declareAll, startDeclarations, start}
+use Rattle.grammar.specs.Declaration.{value, valueFrom, declare, declareAll, startDeclarations, startTable}
 use Rattle.grammar.proofs.Logic.{and-left, and-right, and-intro, clash, same-eq, same-refl}
 use Rattle.grammar.proofs.Operators.{both}
 
@@ -244,6 +244,6 @@ pub conditions-complete : (T : Table) → Distinct T → Conditions T → lawful
 conditions-complete T p c = found-lawful T p (λ m. lawful-complete (role T m) (c m))
 
 -- The eight operators at the start satisfy the conditions.
-pub conditions-start : Conditions start
-unfolding start startDeclarations declareAll declare declareRole same value valueFrom replaced sameFixity lawfulTable lawful onePrecedenceTest lawfulAssociativities besideInfix only absentRole sameAssociativity
-conditions-start = conditions-sound start refl
+pub conditions-start : Conditions startTable
+unfolding startTable startDeclarations declareAll declare declareRole same value valueFrom replaced sameFixity lawfulTable lawful onePrecedenceTest lawfulAssociativities besideInfix only absentRole sameAssociativity
+conditions-start = conditions-sound startTable refl

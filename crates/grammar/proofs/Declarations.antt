@@ -10,6 +10,10 @@ use native.Mathlib.Omega.{arith}
 use lib.ListN.{length}
 use Rattle.grammar.specs.Bytes.{Bytes, same}
 use Rattle.grammar.specs.Token.{
+  isStructure,
+  structureNumber,
+  atom,
+  structure,
   Token,
   symbol,
   number,
@@ -21,19 +25,7 @@ use Rattle.grammar.specs.Token.{
   keywordIn,
   keywordEnd,
 }
-use Rattle.grammar.specs.Operator.{
-  Fixity,
-  Prefix,
-  Infix,
-  Postfix,
-  Associativity,
-  left,
-  right,
-  non,
-  allowed,
-  Table,
-  lawfulTable,
-}
+use Rattle.grammar.specs.Operator.{Fixity, Prefix, Infix, Postfix, Associativity, left, right, non, allowed, Table, lawfulTable}
 use Rattle.grammar.specs.Outcome.{Outcome, refused, passed}
 use Rattle.grammar.specs.Declaration.{
   Declaration,
@@ -71,16 +63,16 @@ use Rattle.grammar.specs.Declaration.{
   declarationsOf,
   declarations,
 }
-use Rattle.grammar.proofs.Logic.{and-left, and-right, and-intro, same-eq}
+use Rattle.grammar.proofs.Logic.{and-left, and-right, and-intro, impossible, same-eq}
 
 -- The words of declarations are told apart.
-fixity-named : (f : Fixity) → (same (fixityWord f) plainWord ≡ false) × (fixityNamed (fixityWord f) ≡ some f)
+pub fixity-named : (f : Fixity) → (same (fixityWord f) plainWord ≡ false) × (fixityNamed (fixityWord f) ≡ some f)
 unfolding fixityNamed fixityWord same
 fixity-named Prefix = (refl, refl)
 fixity-named Infix = (refl, refl)
 fixity-named Postfix = (refl, refl)
 
-associativity-named : (a : Associativity) → associativityNamed (associativityWord a) ≡ some a
+pub associativity-named : (a : Associativity) → associativityNamed (associativityWord a) ≡ some a
 unfolding associativityNamed associativityWord same
 associativity-named left = refl
 associativity-named right = refl
@@ -91,7 +83,7 @@ pub declaration-of :
     (d : Declaration) (rest : List Token) → isDeclaration d ≡ true → declaration (declarationTokens d ++ rest) ≡ parsed d rest
 unfolding
     declarationTokens declaration firstWord associativityPart associativityFor precedencePart precedenceOf operatorPart closed
-    symbolOf isSemicolon isDeclaration same
+    symbolOf isSemicolon isDeclaration same isStructure structureNumber
 declaration-of (declares f a d m) rest e =
     rw (fixity-named f .0, firstWord)
     (rw (fixity-named f .1)
@@ -112,28 +104,28 @@ module _ {B C : Type 0} {stop b : B} (stopped : stop ≡ b → ⊥) where
   tested false e then = absurd (stopped e)
 
 no-parse : {n : ℕ} {d : Declaration} {rest : List Token} → unfit n ≡ parsed d rest → ⊥
-no-parse e = let z : _≡_ {A = ℕ} 0 1 = cc in omega arith
+no-parse e = impossible cc
 
 no-some : {A : Type 0} {x : A} → none ≡ some x → ⊥
-no-some e = let z : _≡_ {A = ℕ} 0 1 = cc in omega arith
+no-some e = impossible cc
 
 no-pass : {n i : ℕ} {U : Table} → refused n i ≡ passed U → ⊥
-no-pass e = let z : _≡_ {A = ℕ} 0 1 = cc in omega arith
+no-pass e = impossible cc
 
 -- Which token, and which word, a part of the reader goes on with.
 token-wanted :
-    (t : Token) → ((w : Bytes) → symbolOf t ≡ some w → t ≡ symbol w)
-    × ((d : Bytes) → precedenceOf t ≡ some d → (t ≡ number d) × (isPrecedence d ≡ true)) × (isSemicolon t ≡ true → t ≡ semicolon)
-unfolding symbolOf precedenceOf isSemicolon
-token-wanted (symbol v) = ((λ w e. cc), (λ d e. (cc, cc)), λ e. cc)
-token-wanted (number c) = ((λ w e. cc), (λ d e. tested no-some (isPrecedence c) e (λ p q. (cc, cc))), λ e. cc)
-token-wanted (quoted c) = ((λ w e. cc), (λ d e. (cc, cc)), λ e. cc)
-token-wanted opening = ((λ w e. cc), (λ d e. (cc, cc)), λ e. cc)
-token-wanted closing = ((λ w e. cc), (λ d e. (cc, cc)), λ e. cc)
-token-wanted semicolon = ((λ w e. cc), (λ d e. (cc, cc)), λ e. cc)
-token-wanted keywordLet = ((λ w e. cc), (λ d e. (cc, cc)), λ e. cc)
-token-wanted keywordIn = ((λ w e. cc), (λ d e. (cc, cc)), λ e. cc)
-token-wanted keywordEnd = ((λ w e. cc), (λ d e. (cc, cc)), λ e. cc)
+    (t : Token) → ((w : Bytes) → symbolOf t ≡ some w → t ≡ atom (symbol w))
+    × ((d : Bytes) → precedenceOf t ≡ some d → (t ≡ atom (number d)) × (isPrecedence d ≡ true)) × (isSemicolon t ≡ true → t ≡ structure semicolon)
+unfolding symbolOf precedenceOf isSemicolon isStructure structureNumber
+token-wanted (atom (symbol v)) = ((λ w e. cc), (λ d e. (cc, cc)), λ e. cc)
+token-wanted (atom (number c)) = ((λ w e. cc), (λ d e. tested no-some (isPrecedence c) e (λ p q. (cc, cc))), λ e. cc)
+token-wanted (atom (quoted c)) = ((λ w e. cc), (λ d e. (cc, cc)), λ e. cc)
+token-wanted (structure opening) = ((λ w e. cc), (λ d e. (cc, cc)), λ e. cc)
+token-wanted (structure closing) = ((λ w e. cc), (λ d e. (cc, cc)), λ e. cc)
+token-wanted (structure semicolon) = ((λ w e. cc), (λ d e. (cc, cc)), λ e. cc)
+token-wanted (structure keywordLet) = ((λ w e. cc), (λ d e. (cc, cc)), λ e. cc)
+token-wanted (structure keywordIn) = ((λ w e. cc), (λ d e. (cc, cc)), λ e. cc)
+token-wanted (structure keywordEnd) = ((λ w e. cc), (λ d e. (cc, cc)), λ e. cc)
 
 module _ {A : Type 0} (word : A → Bytes) (w : Bytes) {b : A} where
   word-wanted :
@@ -157,7 +149,7 @@ associativity-wanted w a =
 
 allowed-wanted :
     (f : Fixity) (t : Token) (a : Associativity) → associativityFor f t ≡ some a
-    → (t ≡ symbol (associativityWord a)) × (allowed f a ≡ true)
+    → (t ≡ atom (symbol (associativityWord a))) × (allowed f a ≡ true)
 unfolding associativityFor
 allowed-wanted f t a e =
     found no-some (symbolOf t) e λ w p q.
@@ -167,14 +159,14 @@ allowed-wanted f t a e =
 
 -- The parts of the reader, last first: what they went on with are the tokens of a declaration.
 module _ {d : Declaration} {rest : List Token} where
-  closed-sound : (n : ℕ) (e : Declaration) (ts : List Token) → closed n e ts ≡ parsed d rest → (e ≡ d) × (ts ≡ semicolon ∷ rest)
+  closed-sound : (n : ℕ) (e : Declaration) (ts : List Token) → closed n e ts ≡ parsed d rest → (e ≡ d) × (ts ≡ structure semicolon ∷ rest)
   unfolding closed
   closed-sound n e [] h = absurd (no-parse h)
   closed-sound n e (t ∷ ts) h = tested no-parse (isSemicolon t) h λ p q. (cc, cc (token-wanted t .2 p))
 
   operator-sound :
       (n : ℕ) (make : Bytes → Declaration) (ts : List Token) → operatorPart n make ts ≡ parsed d rest
-      → (m : Bytes) × (make m ≡ d) × (ts ≡ symbol m ∷ semicolon ∷ rest)
+      → (m : Bytes) × (make m ≡ d) × (ts ≡ atom (symbol m) ∷ structure semicolon ∷ rest)
   unfolding operatorPart
   operator-sound n make [] h = absurd (no-parse h)
   operator-sound n make (t ∷ ts) h =
@@ -184,7 +176,7 @@ module _ {d : Declaration} {rest : List Token} where
 
   precedence-sound :
       (f : Fixity) (a : Associativity) (ts : List Token) → precedencePart f a ts ≡ parsed d rest
-      → (c m : Bytes) × (declares f a c m ≡ d) × (ts ≡ number c ∷ symbol m ∷ semicolon ∷ rest) × (isPrecedence c ≡ true)
+      → (c m : Bytes) × (declares f a c m ≡ d) × (ts ≡ atom (number c) ∷ atom (symbol m) ∷ structure semicolon ∷ rest) × (isPrecedence c ≡ true)
   unfolding precedencePart
   precedence-sound f a [] h = absurd (no-parse h)
   precedence-sound f a (t ∷ ts) h =
@@ -194,7 +186,7 @@ module _ {d : Declaration} {rest : List Token} where
 
   associativity-sound :
       (f : Fixity) (ts : List Token) → associativityPart f ts ≡ parsed d rest
-      → (symbol (fixityWord f) ∷ ts ≡ declarationTokens d ++ rest) × (isDeclaration d ≡ true)
+      → (atom (symbol (fixityWord f)) ∷ ts ≡ declarationTokens d ++ rest) × (isDeclaration d ≡ true)
   unfolding associativityPart declarationTokens isDeclaration
   associativity-sound f [] h = absurd (no-parse h)
   associativity-sound f (t ∷ ts) h =
@@ -205,7 +197,7 @@ module _ {d : Declaration} {rest : List Token} where
 
   first-sound :
       (w : Bytes) (ts : List Token) → firstWord w ts ≡ parsed d rest
-      → (symbol w ∷ ts ≡ declarationTokens d ++ rest) × (isDeclaration d ≡ true)
+      → (atom (symbol w) ∷ ts ≡ declarationTokens d ++ rest) × (isDeclaration d ≡ true)
   unfolding firstWord declarationTokens isDeclaration
   first-sound w ts h = go (same w plainWord) refl h
     where
@@ -217,7 +209,7 @@ module _ {d : Declaration} {rest : List Token} where
                 elim (fixityNamed w) [ none ↦ unfit 0 | some f ↦ associativityPart f ts ]
           ]
           ≡ parsed d rest
-          → (symbol w ∷ ts ≡ declarationTokens d ++ rest) × (isDeclaration d ≡ true)
+          → (atom (symbol w) ∷ ts ≡ declarationTokens d ++ rest) × (isDeclaration d ≡ true)
       go true p q =
           let (m, r, s) = operator-sound 1 clears ts q in
           rw (← r) (cc (same-eq w plainWord p), refl)

@@ -10,7 +10,24 @@ use borrow.Author.Tests.{le-leb, lt-leb}
 use Rattle.grammar.specs.Token.{Token}
 use Rattle.grammar.specs.Operator.{Table, lawfulTable}
 use Rattle.grammar.specs.Outcome.{refused, passed}
-use Rattle.grammar.specs.Declaration.{Declaration, declare, declareAll, declarationTokens, allTokens, isDeclaration, areDeclarations, Parsed, unfit, parsed, declaration, operatorPlace, mostOperators, hasRoom, checkedAt, enter}
+use Rattle.grammar.specs.Declaration.{
+  Declaration,
+  declare,
+  declareAll,
+  declarationTokens,
+  allTokens,
+  isDeclaration,
+  areDeclarations,
+  Parsed,
+  unfit,
+  parsed,
+  declaration,
+  operatorPlace,
+  mostOperators,
+  hasRoom,
+  checkedAt,
+  enter,
+}
 use Rattle.grammar.proofs.Declarations.{declaration-of, declaration-sound, tokens-shorter, declarations-first, enter-end, enter-step}
 
 -- Every table on the way has room for its operators.
@@ -19,12 +36,12 @@ Fits T [] = Unit {0}
 Fits T (d ∷ ds) = (length (declare T d) ≤ mostOperators) × Fits (declare T d) ds
 
 -- What is parsed leaves fewer tokens.
-parsed-shorter :
+pub parsed-shorter :
     (ts : List Token) (d : Declaration) (rest : List Token) → declaration ts ≡ parsed d rest → length rest < length ts
 parsed-shorter ts d rest e = rw (declaration-sound ts d rest e .0) (tokens-shorter d rest)
 
 -- One step of the checks at tokens that do not fit.
-enter-unfit :
+pub enter-unfit :
     (k : ℕ) (T : Table) (i : ℕ) (ts : List Token) (n : ℕ) → 0 < length ts → length ts ≤ k → declaration ts ≡ unfit n
     → enter k T i ts ≡ refused 8 (i + n)
 unfolding enter
@@ -104,13 +121,6 @@ enter-checked k T i ds a f h =
     ap (enter k T i) (sym (append-nil (allTokens ds)))
     ∙ enter-behind k T i ds [] a f (rw (append-nil (allTokens ds)) h)
     ∙ enter-end k (declareAll T ds) (i + length (allTokens ds))
-
--- Declarations that fit pass, if what is in force behind them satisfies the four conditions.
-pub enter-complete :
-    (T : Table) (i : ℕ) (ds : List Declaration) → areDeclarations ds ≡ true → Fits T ds → lawfulTable (declareAll T ds) ≡ true
-    → enter (length (allTokens ds)) T i (allTokens ds) ≡ passed (declareAll T ds)
-unfolding checkedAt
-enter-complete T i ds a f l = enter-checked (length (allTokens ds)) T i ds a f (omega arith) ∙ rw (l, checkedAt) refl
 
 -- Refusals behind declarations that fit. Check 8: the tokens that follow are no declaration.
 pub unfit-refused :

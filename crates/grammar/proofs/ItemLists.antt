@@ -9,10 +9,10 @@ use Rattle.grammar.specs.Token.{Token}
 use Rattle.grammar.specs.Outcome.{Outcome, refused, passed, andThen}
 use Rattle.grammar.specs.Operator.{Table}
 use Rattle.grammar.specs.Declaration.{enter}
-use Rattle.grammar.specs.Span.{Item, single, pair, scope, itemTokens}
+use Rattle.grammar.specs.Span.{Item, single, pair, scope, itemTokens, allItemTokens}
 use Rattle.grammar.specs.Blocks.{checkItem, checkItems}
-use Rattle.grammar.proofs.Lists.{All}
-use Rattle.grammar.proofs.ItemsNested.{allItemTokens}
+use Rattle.grammar.specs.Bytes.{All}
+use Rattle.grammar.proofs.Logic.{impossible}
 
 -- No item has more tokens than the whole list.
 pub all-within : (n : ℕ) (xs : List Item) → length (allItemTokens xs) ≤ n → All (λ x. length (itemTokens x) ≤ n) xs
@@ -25,7 +25,7 @@ all-within n (x ∷ xs) h =
 -- A check that passed after another one: both did.
 pub andThen-passed : {A B : Type 0} (o : Outcome A) (f : A → Outcome B) (b : B) → andThen o f ≡ passed b → (a : A) × (o ≡ passed a) × (f a ≡ passed b)
 unfolding andThen
-andThen-passed (refused n p) f b e = let z : _≡_ {A = ℕ} 0 1 = cc in absurd (omega arith)
+andThen-passed (refused n p) f b e = impossible cc
 andThen-passed (passed a) f b e = (a, refl, e)
 
 -- A refusal of two checks is that of the first, or that of the second after the first passed.

@@ -8,27 +8,38 @@ use mathlib.Core.List.{List, [], _∷_, _++_, append-assoc, append-nil}
 use Prim.Native.Nat.{ℕ, suc, _≤_, _<_}
 use native.Mathlib.Omega.{arith}
 use lib.ListN.{length, length-append}
-use Rattle.grammar.specs.Token.{Token, symbol, number, quoted, opening, closing, semicolon, keywordLet, keywordIn, keywordEnd}
+use Rattle.grammar.specs.Open.{Open, inBracket, inDeclarations, inBody}
+use Rattle.grammar.specs.Token.{atom, structure, Token, opening, closing, semicolon, keywordLet, keywordIn, keywordEnd}
 use Rattle.grammar.specs.Outcome.{passed}
-use Rattle.grammar.specs.Nesting.{Open, inBracket, inDeclarations, inBody, Move, stays, broken, enters, becomes, leaves}
+use Rattle.grammar.specs.Nesting.{Move, stays, broken, enters, becomes, leaves}
 use Rattle.grammar.specs.Nesting.{outermost, within, move, closeInnermost, nesting}
-use Rattle.grammar.specs.Declaration.{isSemicolon}
-use Rattle.grammar.specs.Span.{Item, single, pair, scope, itemTokens, effect, item, Walk, outside, inside, itemsFrom, items}
-use Rattle.grammar.proofs.Lists.{All, all-append}
-use Rattle.grammar.proofs.Plain.{isContent}
-use Rattle.grammar.proofs.Items.{isQuiet, AllQuiet, collects, effect-quiet, item-block, outside-content}
-use Rattle.grammar.proofs.Nested.{moved, Allowed, refused-passed, nesting-step, nesting-after, content-stays, quiet-stays}
-
-unfoldable pub allItemTokens : List Item → List Token
-allItemTokens [] = []
-allItemTokens (i ∷ is) = itemTokens i ++ allItemTokens is
+use Rattle.grammar.specs.Span.{
+  Item,
+  single,
+  pair,
+  scope,
+  itemTokens,
+  effect,
+  item,
+  Walk,
+  outside,
+  inside,
+  itemsFrom,
+  items,
+  InDeclarations,
+  allItemTokens,
+}
+use Rattle.grammar.specs.Bytes.{All}
+use Rattle.grammar.proofs.Lists.{all-append}
+use Rattle.grammar.proofs.Items.{AllQuiet, collects, effect-quiet, item-block, outside-atom}
+use Rattle.grammar.proofs.Nested.{moved, Allowed, refused-passed, nesting-step, nesting-after, atom-stays, quiet-stays}
 
 -- Tokens that pass checks 6 and 7 where `os` is open.
 abbrev pub Passes : List Open → List Token → Type 0
 Passes os ts = (i : ℕ) → nesting os i ts ≡ passed tt
 
 abbrev pub ItemNested : Item → Type 0
-ItemNested (single t) = isContent t ≡ true
+ItemNested (single a) = Unit {0}
 ItemNested (pair ts) = Passes [] ts
 ItemNested (scope ds ts) = AllQuiet ds × Passes [] ts
 
@@ -45,12 +56,12 @@ opened brackets = inBracket
 opened (body ds) = inBody
 
 abbrev opener : Pair → Token
-opener brackets = opening
-opener (body ds) = keywordLet
+opener brackets = structure opening
+opener (body ds) = structure keywordLet
 
 abbrev closer : Pair → Token
-closer brackets = closing
-closer (body ds) = keywordEnd
+closer brackets = structure closing
+closer (body ds) = structure keywordEnd
 
 abbrev isBlock : Pair → Bool
 isBlock brackets = false
@@ -59,7 +70,7 @@ isBlock (body ds) = true
 -- Its tokens before the span in it, and the item that it is with the span `ts`.
 abbrev before : Pair → List Token
 before brackets = []
-before (body ds) = ds ++ keywordIn ∷ []
+before (body ds) = ds ++ structure keywordIn ∷ []
 
 abbrev whole : Pair → List Token → Item
 whole brackets ts = pair ts
@@ -89,7 +100,7 @@ openOf (held h inner us) = inner ++ opened h ∷ []
 -- The tokens of the item that is not finished.
 abbrev unfinished : State → List Token
 unfinished between = []
-unfinished (declaring ds) = keywordLet ∷ ds
+unfinished (declaring ds) = structure keywordLet ∷ ds
 unfinished (held h inner us) = opener h ∷ before h ++ us
 
 -- Walked from nothing open, `us` leads to `inner`.
@@ -111,57 +122,51 @@ record Step (s : State) (t : Token) (ts : List Token) (i : ℕ) : Type 0 where
   kept : allItemTokens done ++ unfinished next ≡ unfinished s ++ t ∷ []
   nested : AllNested done
 
-content-step : (t : Token) → isContent t ≡ true → (ts : List Token) (i : ℕ) → nesting [] i (t ∷ ts) ≡ passed tt → Step between t ts i
-unfolding allItemTokens itemTokens moved
-content-step t c ts i h =
+between-step : (t : Token) (ts : List Token) (i : ℕ) → nesting [] i (t ∷ ts) ≡ passed tt → Step between t ts i
+unfolding nesting move outermost moved itemsFrom effect allItemTokens itemTokens
+between-step (atom a) ts i h =
     record {
       next = between;
-      done = single t ∷ [];
+      done = single a ∷ [];
       sound = tt;
-      passes = nesting-after [] i t ts stays (content-stays [] t c) h .1;
-      walked = outside-content t ts c;
+      passes = nesting-after [] i (atom a) ts stays (atom-stays [] a) h .1;
+      walked = outside-atom a ts;
       kept = refl;
-      nested = (c, tt);
+      nested = (tt, tt);
     }
-
-between-step : (t : Token) (ts : List Token) (i : ℕ) → nesting [] i (t ∷ ts) ≡ passed tt → Step between t ts i
-unfolding isContent nesting move outermost moved itemsFrom effect allItemTokens
-between-step (symbol w) ts i h = content-step (symbol w) refl ts i h
-between-step (number d) ts i h = content-step (number d) refl ts i h
-between-step (quoted c) ts i h = content-step (quoted c) refl ts i h
-between-step opening ts i h =
+between-step (structure opening) ts i h =
     record {
       next = held brackets [] [];
       done = [];
       sound = (tt, λ vs p. p);
-      passes = nesting-after [] i opening ts (enters inBracket) refl h .1;
+      passes = nesting-after [] i (structure opening) ts (enters inBracket) refl h .1;
       walked = refl;
       kept = refl;
       nested = tt;
     }
-between-step closing ts i h = absurd (refused-passed h)
-between-step semicolon ts i h = absurd (refused-passed h)
-between-step keywordLet ts i h =
+between-step (structure closing) ts i h = absurd (refused-passed h)
+between-step (structure semicolon) ts i h = absurd (refused-passed h)
+between-step (structure keywordLet) ts i h =
     record {
       next = declaring [];
       done = [];
       sound = tt;
-      passes = nesting-after [] i keywordLet ts (enters inDeclarations) refl h .1;
+      passes = nesting-after [] i (structure keywordLet) ts (enters inDeclarations) refl h .1;
       walked = refl;
       kept = refl;
       nested = tt;
     }
-between-step keywordIn ts i h = absurd (refused-passed h)
-between-step keywordEnd ts i h = absurd (refused-passed h)
+between-step (structure keywordIn) ts i h = absurd (refused-passed h)
+between-step (structure keywordEnd) ts i h = absurd (refused-passed h)
 
-quiet-step : (ds : List Token) → AllQuiet ds → (t : Token) → isQuiet t ≡ true → (ts : List Token) (i : ℕ)
+quiet-step : (ds : List Token) → AllQuiet ds → (t : Token) → InDeclarations t → (ts : List Token) (i : ℕ)
     → nesting (inDeclarations ∷ []) i (t ∷ ts) ≡ passed tt → Step (declaring ds) t ts i
 unfolding allItemTokens moved
 quiet-step ds q t c ts i h =
     record {
       next = declaring (ds ++ t ∷ []);
       done = [];
-      sound = all-append (λ u. isQuiet u ≡ true) ds (t ∷ []) q (c, tt);
+      sound = all-append InDeclarations ds (t ∷ []) q (c, tt);
       passes = nesting-after (inDeclarations ∷ []) i t ts stays (quiet-stays [] t c) h .1;
       walked = collects true 0 ds t ts (effect-quiet t c);
       kept = refl;
@@ -170,60 +175,54 @@ quiet-step ds q t c ts i h =
 
 declaring-step : (ds : List Token) → AllQuiet ds → (t : Token) (ts : List Token) (i : ℕ)
     → nesting (inDeclarations ∷ []) i (t ∷ ts) ≡ passed tt → Step (declaring ds) t ts i
-unfolding isQuiet isContent isSemicolon nesting move within moved closeInnermost effect allItemTokens
-declaring-step ds q (symbol w) ts i h = quiet-step ds q (symbol w) refl ts i h
-declaring-step ds q (number d) ts i h = quiet-step ds q (number d) refl ts i h
-declaring-step ds q (quoted c) ts i h = quiet-step ds q (quoted c) refl ts i h
-declaring-step ds q opening ts i h = absurd (refused-passed h)
-declaring-step ds q closing ts i h = absurd (refused-passed h)
-declaring-step ds q semicolon ts i h = quiet-step ds q semicolon refl ts i h
-declaring-step ds q keywordLet ts i h = absurd (refused-passed h)
-declaring-step ds q keywordIn ts i h =
+unfolding nesting move within moved closeInnermost effect allItemTokens
+declaring-step ds q (atom a) ts i h = quiet-step ds q (atom a) tt ts i h
+declaring-step ds q (structure opening) ts i h = absurd (refused-passed h)
+declaring-step ds q (structure closing) ts i h = absurd (refused-passed h)
+declaring-step ds q (structure semicolon) ts i h = quiet-step ds q (structure semicolon) refl ts i h
+declaring-step ds q (structure keywordLet) ts i h = absurd (refused-passed h)
+declaring-step ds q (structure keywordIn) ts i h =
     record {
       next = held (body ds) [] [];
       done = [];
       sound = (q, λ vs p. p);
-      passes = nesting-after (inDeclarations ∷ []) i keywordIn ts (becomes inBody) refl h .1;
-      walked = collects true 0 ds keywordIn ts refl ∙ rw (append-nil (ds ++ keywordIn ∷ []));
-      kept = ap (λ us. keywordLet ∷ us) (append-nil (ds ++ keywordIn ∷ []));
+      passes = nesting-after (inDeclarations ∷ []) i (structure keywordIn) ts (becomes inBody) refl h .1;
+      walked = collects true 0 ds (structure keywordIn) ts refl ∙ rw (append-nil (ds ++ structure keywordIn ∷ []));
+      kept = ap (λ us. (structure keywordLet) ∷ us) (append-nil (ds ++ structure keywordIn ∷ []));
       nested = tt;
     }
-declaring-step ds q keywordEnd ts i h = absurd (refused-passed h)
+declaring-step ds q (structure keywordEnd) ts i h = absurd (refused-passed h)
 
 -- Inside a pair, what a token does to the openers in it is what it does to the depth of the walk.
 inside-step : (b : Bool) (us : List Token) (inner : List Open) (t : Token) (ts : List Token) → Allowed inner (move inner t)
     → itemsFrom (inside b (length inner) us) (t ∷ ts) ≡ itemsFrom (inside b (length (moved inner (move inner t))) (us ++ t ∷ [])) ts
 unfolding itemsFrom effect move outermost within moved closeInnermost
-inside-step b us [] (symbol w) ts a = refl
-inside-step b us [] (number d) ts a = refl
-inside-step b us [] (quoted c) ts a = refl
-inside-step b us [] opening ts a = refl
-inside-step b us [] closing ts a = absurd a
-inside-step b us [] semicolon ts a = absurd a
-inside-step b us [] keywordLet ts a = refl
-inside-step b us [] keywordIn ts a = absurd a
-inside-step b us [] keywordEnd ts a = absurd a
-inside-step b us (o ∷ os) (symbol w) ts a = refl
-inside-step b us (o ∷ os) (number d) ts a = refl
-inside-step b us (o ∷ os) (quoted c) ts a = refl
-inside-step b us (inBracket ∷ os) opening ts a = refl
-inside-step b us (inBracket ∷ os) closing ts a = refl
-inside-step b us (inBracket ∷ os) semicolon ts a = absurd a
-inside-step b us (inBracket ∷ os) keywordLet ts a = refl
-inside-step b us (inBracket ∷ os) keywordIn ts a = absurd a
-inside-step b us (inBracket ∷ os) keywordEnd ts a = absurd a
-inside-step b us (inDeclarations ∷ os) opening ts a = absurd a
-inside-step b us (inDeclarations ∷ os) closing ts a = absurd a
-inside-step b us (inDeclarations ∷ os) semicolon ts a = refl
-inside-step b us (inDeclarations ∷ os) keywordLet ts a = absurd a
-inside-step b us (inDeclarations ∷ os) keywordIn ts a = refl
-inside-step b us (inDeclarations ∷ os) keywordEnd ts a = absurd a
-inside-step b us (inBody ∷ os) opening ts a = refl
-inside-step b us (inBody ∷ os) closing ts a = absurd a
-inside-step b us (inBody ∷ os) semicolon ts a = absurd a
-inside-step b us (inBody ∷ os) keywordLet ts a = refl
-inside-step b us (inBody ∷ os) keywordIn ts a = absurd a
-inside-step b us (inBody ∷ os) keywordEnd ts a = refl
+inside-step b us [] (atom x) ts a = refl
+inside-step b us [] (structure opening) ts a = refl
+inside-step b us [] (structure closing) ts a = absurd a
+inside-step b us [] (structure semicolon) ts a = absurd a
+inside-step b us [] (structure keywordLet) ts a = refl
+inside-step b us [] (structure keywordIn) ts a = absurd a
+inside-step b us [] (structure keywordEnd) ts a = absurd a
+inside-step b us (o ∷ os) (atom x) ts a = refl
+inside-step b us (inBracket ∷ os) (structure opening) ts a = refl
+inside-step b us (inBracket ∷ os) (structure closing) ts a = refl
+inside-step b us (inBracket ∷ os) (structure semicolon) ts a = absurd a
+inside-step b us (inBracket ∷ os) (structure keywordLet) ts a = refl
+inside-step b us (inBracket ∷ os) (structure keywordIn) ts a = absurd a
+inside-step b us (inBracket ∷ os) (structure keywordEnd) ts a = absurd a
+inside-step b us (inDeclarations ∷ os) (structure opening) ts a = absurd a
+inside-step b us (inDeclarations ∷ os) (structure closing) ts a = absurd a
+inside-step b us (inDeclarations ∷ os) (structure semicolon) ts a = refl
+inside-step b us (inDeclarations ∷ os) (structure keywordLet) ts a = absurd a
+inside-step b us (inDeclarations ∷ os) (structure keywordIn) ts a = refl
+inside-step b us (inDeclarations ∷ os) (structure keywordEnd) ts a = absurd a
+inside-step b us (inBody ∷ os) (structure opening) ts a = refl
+inside-step b us (inBody ∷ os) (structure closing) ts a = absurd a
+inside-step b us (inBody ∷ os) (structure semicolon) ts a = absurd a
+inside-step b us (inBody ∷ os) (structure keywordLet) ts a = refl
+inside-step b us (inBody ∷ os) (structure keywordIn) ts a = absurd a
+inside-step b us (inBody ∷ os) (structure keywordEnd) ts a = refl
 
 -- A token that does to what is open in the pair what it does to everything open.
 abbrev StaysIn : Pair → List Open → Token → Type 0
@@ -234,21 +233,19 @@ StaysIn h inner t =
 -- With nothing open in the pair this is every token but the closer.
 closer-or-stays : (h : Pair) (t : Token) → (t ≡ closer h) ⊎ StaysIn h [] t
 unfolding move outermost within moved
-closer-or-stays h (symbol w) = inr (refl, refl)
-closer-or-stays h (number d) = inr (refl, refl)
-closer-or-stays h (quoted c) = inr (refl, refl)
-closer-or-stays brackets opening = inr (refl, refl)
-closer-or-stays brackets closing = inl refl
-closer-or-stays brackets semicolon = inr (refl, refl)
-closer-or-stays brackets keywordLet = inr (refl, refl)
-closer-or-stays brackets keywordIn = inr (refl, refl)
-closer-or-stays brackets keywordEnd = inr (refl, refl)
-closer-or-stays (body ds) opening = inr (refl, refl)
-closer-or-stays (body ds) closing = inr (refl, refl)
-closer-or-stays (body ds) semicolon = inr (refl, refl)
-closer-or-stays (body ds) keywordLet = inr (refl, refl)
-closer-or-stays (body ds) keywordIn = inr (refl, refl)
-closer-or-stays (body ds) keywordEnd = inl refl
+closer-or-stays h (atom a) = inr (refl, refl)
+closer-or-stays brackets (structure opening) = inr (refl, refl)
+closer-or-stays brackets (structure closing) = inl refl
+closer-or-stays brackets (structure semicolon) = inr (refl, refl)
+closer-or-stays brackets (structure keywordLet) = inr (refl, refl)
+closer-or-stays brackets (structure keywordIn) = inr (refl, refl)
+closer-or-stays brackets (structure keywordEnd) = inr (refl, refl)
+closer-or-stays (body ds) (structure opening) = inr (refl, refl)
+closer-or-stays (body ds) (structure closing) = inr (refl, refl)
+closer-or-stays (body ds) (structure semicolon) = inr (refl, refl)
+closer-or-stays (body ds) (structure keywordLet) = inr (refl, refl)
+closer-or-stays (body ds) (structure keywordIn) = inr (refl, refl)
+closer-or-stays (body ds) (structure keywordEnd) = inl refl
 
 moved-below : (o p : Open) (os : List Open) (m : Move) → moved (o ∷ os ++ p ∷ []) m ≡ moved (o ∷ os) m ++ p ∷ []
 unfolding moved closeInnermost
@@ -313,21 +310,22 @@ closer-step (body ds) us s ts i p =
       done = scope ds us ∷ [];
       sound = tt;
       passes = p;
-      walked = rw (append-assoc ds (keywordIn ∷ []) us, item-block ds us (s .0));
+      walked = rw (append-assoc ds (structure keywordIn ∷ []) us, item-block ds us (s .0));
       kept = simp (append-nil, append-assoc);
       nested = ((s .0, leads-inside us (s .1)), tt);
     }
 
 held-step : (h : Pair) (inner : List Open) (us : List Token) → Sound (held h inner us) → (t : Token) (ts : List Token) (i : ℕ)
     → nesting (inner ++ opened h ∷ []) i (t ∷ ts) ≡ passed tt → Step (held h inner us) t ts i
-unfolding move
+unfolding move moved
 held-step h [] us s t ts i p = which (closer-or-stays h t)
   where
     which : (t ≡ closer h) ⊎ StaysIn h [] t → Step (held h [] us) t ts i
     which (inl e) = rw e (closer-step h us s ts i (rw e at p))
     which (inr e) = stays-step h [] us s t e ts i p
-held-step h (o ∷ inner) us s t ts i p =
-    stays-step h (o ∷ inner) us s t (refl, moved-below o (opened h) inner (within o t)) ts i p
+held-step h (o ∷ inner) us s (atom a) ts i p = stays-step h (o ∷ inner) us s (atom a) (refl, refl) ts i p
+held-step h (o ∷ inner) us s (structure t) ts i p =
+    stays-step h (o ∷ inner) us s (structure t) (refl, moved-below o (opened h) inner (within o t)) ts i p
 
 step : (s : State) → Sound s → (t : Token) (ts : List Token) (i : ℕ) → nesting (openOf s) i (t ∷ ts) ≡ passed tt → Step s t ts i
 step between s = between-step
@@ -381,7 +379,7 @@ items-nested ts i p = complete ts between i tt p .nested
 
 -- The span inside an item is shorter than `n`.
 abbrev pub ItemShorter : ℕ → Item → Type 0
-ItemShorter n (single t) = Unit {0}
+ItemShorter n (single a) = Unit {0}
 ItemShorter n (pair ts) = length ts < n
 ItemShorter n (scope ds ts) = length ts < n
 
@@ -390,9 +388,9 @@ Shorter n = All (ItemShorter n)
 
 item-shorter : (n : ℕ) (i : Item) → length (itemTokens i) ≤ n → ItemShorter n i
 unfolding itemTokens
-item-shorter n (single t) h = tt
-item-shorter n (pair ts) h = omega (arith, length-append ts (closing ∷ []))
-item-shorter n (scope ds ts) h = omega (arith, length-append (ds ++ keywordIn ∷ ts) (keywordEnd ∷ []), length-append ds (keywordIn ∷ ts))
+item-shorter n (single a) h = tt
+item-shorter n (pair ts) h = omega (arith, length-append ts (structure closing ∷ []))
+item-shorter n (scope ds ts) h = omega (arith, length-append (ds ++ structure keywordIn ∷ ts) (structure keywordEnd ∷ []), length-append ds (structure keywordIn ∷ ts))
 
 all-shorter : (n : ℕ) (is : List Item) → length (allItemTokens is) ≤ n → Shorter n is
 unfolding allItemTokens

@@ -1,21 +1,17 @@
 -- What holds of every element of a list, piece by piece.
 use mathlib.Core.List.{List, [], _∷_, _++_}
+use Rattle.grammar.specs.Bytes.{All}
 
 module _ {A : Type 0} (P : A → Type 0) where
-  -- Of every element.
-  abbrev pub All : List A → Type 0
-  All [] = Unit {0}
-  All (x ∷ xs) = P x × All xs
-
-  pub all-left : (xs ys : List A) → All (xs ++ ys) → All xs
+  pub all-left : (xs ys : List A) → All P (xs ++ ys) → All P xs
   all-left [] ys h = tt
   all-left (x ∷ xs) ys h = (h .0, all-left xs ys (h .1))
 
-  pub all-right : (xs ys : List A) → All (xs ++ ys) → All ys
+  pub all-right : (xs ys : List A) → All P (xs ++ ys) → All P ys
   all-right [] ys h = h
   all-right (x ∷ xs) ys h = all-right xs ys (h .1)
 
-  pub all-append : (xs ys : List A) → All xs → All ys → All (xs ++ ys)
+  pub all-append : (xs ys : List A) → All P xs → All P ys → All P (xs ++ ys)
   all-append [] ys h g = g
   all-append (x ∷ xs) ys h g = (h .0, all-append xs ys (h .1) g)
 

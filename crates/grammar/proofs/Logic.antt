@@ -1,10 +1,12 @@
--- Facts about tests: conjunctions, alternatives, and the equality of byte strings.
+-- Facts about tests: conjunctions, alternatives, the equality of byte strings, and the order of numbers.
 use mathlib.Core.Path.{_≡_, refl, sym, ap₂, _∙_}
 use mathlib.Core.Bool.{Bool, true, false, _&&_, _||_, true≢false}
 use mathlib.Core.Logic.{_⊎_, inl, inr}
 use mathlib.Core.List.{[], _∷_}
-use lib.Dec.{eqb}
-use borrow.Author.Tests.{eqb-true, eq-eqb}
+use Prim.Native.Nat.{ℕ, _≤_, _<_}
+use native.Mathlib.Omega.{arith}
+use lib.Dec.{ltb, eqb}
+use borrow.Author.Tests.{ltb-true, ltb-false, eqb-true, eq-eqb}
 use Rattle.grammar.specs.Bytes.{Bytes, same}
 
 pub and-left : (a b : Bool) → a && b ≡ true → a ≡ true
@@ -30,6 +32,10 @@ either false = inr refl
 pub clash : {b : Bool} → b ≡ true → b ≡ false → ⊥
 clash p q = true≢false (sym p ∙ q)
 
+-- A contradiction between constructors, which `cc` finds.
+pub impossible {ℓ} : {X : Type ℓ} → _≡_ {A = ℕ} 0 1 → X
+impossible e = absurd (omega arith)
+
 pub same-eq : (x y : Bytes) → same x y ≡ true → x ≡ y
 unfolding same
 same-eq [] [] e = refl
@@ -41,3 +47,11 @@ pub same-refl : (x : Bytes) → same x x ≡ true
 unfolding same
 same-refl [] = refl
 same-refl (a ∷ x) = and-intro (eq-eqb a a refl) (same-refl x)
+
+-- One number is below another, or not.
+pub below : {A : Type 0} (k m : ℕ) → (k < m → A) → (m ≤ k → A) → A
+below {A} k m f g = go (ltb k m) refl
+  where
+    go : (b : Bool) → ltb k m ≡ b → A
+    go true e = f (ltb-true k m e)
+    go false e = g (ltb-false k m e)

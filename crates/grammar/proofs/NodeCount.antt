@@ -6,18 +6,19 @@ use mathlib.Core.Option.{Option, none, some}
 use Prim.Native.Nat.{ℕ, zero, suc, _+_}
 use native.Mathlib.Omega.{arith}
 use lib.ListN.{length, length-append}
-use Rattle.grammar.specs.Token.{Token, symbol}
+use Rattle.grammar.specs.Spans.{Span}
+use Rattle.grammar.specs.Token.{Token, symbol, Atom}
 use Rattle.grammar.specs.Operator.{Table}
 use Rattle.grammar.specs.Declaration.{declarations}
-use Rattle.grammar.specs.Span.{Item, single, pair, scope, items, itemTokens}
+use Rattle.grammar.specs.Span.{Item, single, pair, scope, items, itemTokens, allItemTokens}
 use Rattle.grammar.specs.SpanTree.{SpanTree, missing, operand, apply, yield}
 use Rattle.grammar.specs.Tree.{Tree, nothing, leaf}
 use Rattle.grammar.specs.Search.{treeOfSpan}
-use Rattle.grammar.specs.Blocks.{bodyTable, Span, itemSpans, allItemSpans, spans, hangItem, hang, hangFound, treeIn}
+use Rattle.grammar.specs.Blocks.{bodyTable, itemSpans, allItemSpans, spans, hangItem, hang, hangFound, treeIn}
 use Rattle.grammar.specs.Nodes.{count}
+use Rattle.grammar.proofs.Logic.{impossible}
 use Rattle.grammar.proofs.SpanSearch.{treeOfSpan-sound}
-use Rattle.grammar.proofs.ItemsNested.{allItemTokens}
-use Rattle.grammar.proofs.TextSound.{underBracket-some, underBlock-some, underOperator-some}
+use Rattle.grammar.proofs.Hung.{underBracket-some, underBlock-some, underOperator-some}
 
 -- The sum of the spans' items.
 unfoldable pub contentsTotal : List Span → ℕ
@@ -47,9 +48,9 @@ module _ (below : Table → Option ℕ → ℕ → List Token → List Span) whe
   unfolding allItemSpans contentsTotal
   inside-none T i = refl
 
-  inside-single : (T : Table) (i : ℕ) (t : Token) → contentsTotal (itemSpans below T i (single t)) ≡ 0
+  inside-single : (T : Table) (i : ℕ) (a : Atom) → contentsTotal (itemSpans below T i (single a)) ≡ 0
   unfolding itemSpans contentsTotal
-  inside-single T i t = refl
+  inside-single T i a = refl
 
   inside-append :
       (T : Table) (i : ℕ) (xs ys : List Item)
@@ -108,7 +109,7 @@ module _ (below : Table → Option ℕ → ℕ → List Token → List Span) whe
         (T : Table) (i : ℕ) (ts : List Token) (t : Tree) (f : Option SpanTree)
         → treeOfSpan T (items ts) ≡ f → hangFound inner T f ≡ some t → count t ≡ length (items ts) + insideTotal T i (items ts)
     unfolding hangFound
-    found-count T i ts t none q e = let z : _≡_ {A = ℕ} 0 1 = cc in absurd (omega arith)
+    found-count T i ts t none q e = impossible cc
     found-count T i ts t (some s) q e = rw (treeOfSpan-sound T (items ts) s q .yields) at (hang-count T i s t e)
 
 -- A tree has one node for each item of each of its spans.
@@ -116,6 +117,6 @@ pub node-count :
     (k : ℕ) (T : Table) (o : Option ℕ) (i : ℕ) (ts : List Token) (t : Tree)
     → treeIn k T ts ≡ some t → count t ≡ contentsTotal (spans k T o i ts)
 unfolding treeIn spans contentsTotal
-node-count zero T o i ts t e = let z : _≡_ {A = ℕ} 0 1 = cc in absurd (omega arith)
+node-count zero T o i ts t e = impossible cc
 node-count (suc k) T o i ts t e =
     found-count (spans k) (treeIn k) (node-count k) T i ts t (treeOfSpan T (items ts)) refl e

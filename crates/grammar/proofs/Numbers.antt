@@ -2,6 +2,7 @@
 -- Equal values: the shorter string is filled up with zeros, which changes neither its value nor what is left without zeros;
 -- strings of one length and one value are then compared from their last digit, each digit being below 10.
 use mathlib.Core.Path.{_≡_, refl, sym, ap, ap₂, _∙_}
+use mathlib.Core.Logic.{_↔_}
 use mathlib.Core.Bool.{Bool, true, false, true≢false}
 use mathlib.Core.List.{[], _∷_}
 use Prim.Native.Nat.{ℕ, zero, suc, _+_, _*_, _-_, _≤_}
@@ -11,7 +12,7 @@ use lib.Dec.{leb, eqb}
 use lib.ListN.{length}
 use borrow.Author.Tests.{leb-true, leb-false, eqb-true}
 use Rattle.grammar.specs.Bytes.{Bytes, member, every}
-use Rattle.grammar.specs.Token.{class, isBlank, isLetter, within, signs, inNumber, isNumber}
+use Rattle.grammar.specs.Token.{class, isBlank, isLetter, between, signs, inNumber, isNumber}
 use Rattle.grammar.specs.Declaration.{value, valueFrom}
 use Rattle.grammar.specs.Canonical.{withoutZeros, orZero, strip}
 use Rattle.grammar.proofs.Logic.{and-left, and-right, and-intro}
@@ -24,7 +25,7 @@ otherwise : (p : Bool) {x y : ℕ} → NoDigit x → NoDigit y → NoDigit (elim
 otherwise true f g = f
 otherwise false f g = g
 
-no-digit : (b : ℕ) → within 48 57 b ≡ false → NoDigit (class b)
+no-digit : (b : ℕ) → between 48 57 b ≡ false → NoDigit (class b)
 unfolding class
 no-digit b e =
     otherwise (isBlank b) (omega arith)
@@ -39,9 +40,9 @@ no-digit b e =
 
 digit-bounds : (b : ℕ) → inNumber b ≡ true → (48 ≤ b) × (b ≤ 57)
 unfolding inNumber
-digit-bounds b e = go (within 48 57 b) refl
+digit-bounds b e = go (between 48 57 b) refl
   where
-    go : (t : Bool) → within 48 57 b ≡ t → (48 ≤ b) × (b ≤ 57)
+    go : (t : Bool) → between 48 57 b ≡ t → (48 ≤ b) × (b ≤ 57)
     go true f = (leb-true 48 b (and-left _ _ f), leb-true b 57 (and-right (leb 48 b) _ f))
     go false f = absurd (no-digit b f (eqb-true (class b) 2 e))
 
@@ -179,12 +180,6 @@ unfolding isNumber
 strip-shorter [] e = absurd (true≢false (sym e))
 strip-shorter (b ∷ d) e = strip-shorter-cons b d
 
--- A second time `strip` changes nothing.
-pub strip-once : (d : Bytes) → strip (strip d) ≡ strip d
-unfolding strip orZero withoutZeros
-strip-once d =
-    or-zero (withoutZeros d) ∙ sym (padded-strip (zeros-first d .0) (withoutZeros d)) ∙ ap strip (sym (zeros-first d .1))
-  where
-    or-zero : (x : Bytes) → strip (orZero x) ≡ strip x
-    or-zero [] = refl
-    or-zero (b ∷ x) = refl
+-- Digit strings lose their zeros to the same bytes exactly where their values are equal.
+pub same-digits : (d e : Bytes) → isNumber d ≡ true → isNumber e ≡ true → (value d ≡ value e) ↔ (strip d ≡ strip e)
+same-digits d e m n = (strip-equal d e m n, λ q. sym (value-strip d) ∙ ap value q ∙ value-strip e)

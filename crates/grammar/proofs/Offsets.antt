@@ -1,15 +1,17 @@
 -- Tokens stand where the scan says: the first stands behind the blanks, the others in what follows it, and so on. So a text with the
 -- kinds, offsets and lengths of its tokens gives the tokens back.
 use mathlib.Core.Path.{_≡_, refl, sym, ap, ap₂, subst, _∙_}
-use mathlib.Core.Bool.{true, true≢false}
+use mathlib.Core.Bool.{true}
 use mathlib.Core.List.{List, [], _∷_, _++_, map, append-assoc}
 use Prim.Native.Nat.{ℕ, zero, suc, _+_, _-_, _≤_}
 use native.Mathlib.Omega.{arith}
 use native.Mathlib.Nat.{sub-zero}
-use lib.ListN.{length, take, drop, length-append, take-append-drop}
+use lib.ListN.{length, take, drop, length-append}
 use lib.Seq.{take-append-seam, drop-append-seam, drop-append-add, drop-drop}
-use Rattle.grammar.specs.Bytes.{Bytes, every}
+use Rattle.grammar.specs.Bytes.{All, Bytes, every}
 use Rattle.grammar.specs.Token.{
+  atom,
+  structure,
   isBlankByte,
   Token,
   symbol,
@@ -23,19 +25,21 @@ use Rattle.grammar.specs.Token.{
   keywordEnd,
   spelling,
   isToken,
+  Atom,
+  Structure,
+  structureNumber,
+  characters,
 }
 use Rattle.grammar.specs.Spelling.{continues, Stops}
 use Rattle.grammar.specs.Outcome.{Outcome, refused, passed}
 use Rattle.grammar.specs.Scan.{Placed, run, Front, nothing, wrong, taken, front, before, scan}
-use Rattle.grammar.specs.Nodes.{charactersOffset, characters}
+use Rattle.grammar.specs.Nodes.{charactersOffset}
 use Rattle.grammar.specs.Coded.{kindOf, charactersIn, tokenOf, tokenAt, tokensFrom, kindAt, startAt, sizeAt}
 use Rattle.grammar.specs.Answer.{tokensOf}
-use Rattle.grammar.specs.Claim.{AllStand}
-use Rattle.grammar.proofs.Lists.{All, all-map}
-use Rattle.grammar.proofs.Plain.{isContent}
-use Rattle.grammar.proofs.Runs.{ran}
-use Rattle.grammar.proofs.Scanned.{refused-not-passed}
-use Rattle.grammar.proofs.Taken.{Begins, Told, front-told}
+use Rattle.grammar.proofs.Lists.{all-map}
+use Rattle.grammar.proofs.Runs.{ran, front-spelled}
+use Rattle.grammar.proofs.Scanned.{Next, next-token, refused-not-passed}
+use Rattle.grammar.proofs.Logic.{impossible}
 
 -- The token stands at its offset in the text `s`, which begins at offset `at`, and is the one that is taken there.
 abbrev pub Stands : ℕ → Bytes → Placed → Type 0
@@ -71,26 +75,20 @@ first-taken room at s t m ps e h = record {
   gap = take n s;
   rest = here .rest;
   room = room;
-  written = sym (take-append-drop n s) ∙ ap (λ v. take n s ++ v) (here .written);
+  written = here .written;
   blank = ran isBlankByte s .passes;
   starts = ap (_+_ at) (sym (ran isBlankByte s .size));
   valid = here .valid;
   stops = here .stops;
-  found = ap front (sym (here .written)) ∙ e ∙ ap (taken t) (here .size);
-  further = ap₂ (λ k v. scan room (at + n + k) v) (sym (here .size)) (sym behind) ∙ h;
+  found = front-spelled t (here .valid) (here .rest) (here .stops);
+  further = ap₂ (λ k v. scan room (at + n + k) v) (sym (here .size)) (sym (here .behind)) ∙ h;
 }
   where
     n : ℕ
     n = run isBlankByte s
 
-    here : Begins (drop n s) t m
-    here = subst (Told (drop n s)) e (front-told (drop n s))
-
-    behind : drop (n + m) s ≡ here .rest
-    behind =
-        sym (drop-drop m n s)
-        ∙ ap₂ drop (here .size) (here .written)
-        ∙ drop-append-seam (spelling t) (here .rest)
+    here : Next s t m
+    here = next-token s t m e
 
 module _ {p : Placed} {ps : List Placed} where
   -- The front of the text was a token.
@@ -98,7 +96,7 @@ module _ {p : Placed} {ps : List Placed} where
       {C : Type 0} (a : ℕ) (f : Front) {further : Token → ℕ → Outcome (List Placed)}
       → elim f [ nothing ↦ passed [] | wrong k ↦ refused k a | taken t m ↦ further t m ] ≡ passed (p ∷ ps)
       → ((t : Token) (m : ℕ) → f ≡ taken t m → further t m ≡ passed (p ∷ ps) → C) → C
-  front-taken a nothing e then = let z : _≡_ {A = ℕ} 0 1 = cc in absurd (omega arith)
+  front-taken a nothing e then = impossible cc
   front-taken a (wrong k) e then = absurd (refused-not-passed refl e)
   front-taken a (taken t m) e then = then t m refl e
 
@@ -182,76 +180,50 @@ tokens-stand room text ps h = all-map (Stands 0 text) (StandsIn text) whole ps (
     whole : (p : Placed) → Stands 0 text p → StandsIn text p
     whole p s = (s .2 .0, ap (λ n. drop n text) (sym (sub-zero (p .start))) ∙ s .2 .1)
 
--- The bytes from a token's offset on, as many as it has, are the token.
-pub taken-whole :
-    (room : ℕ) (text : Bytes) (ps : List Placed) → scan room 0 text ≡ passed ps
-    → All (λ p. take (length (spelling (p .token))) (drop (p .start) text) ≡ spelling (p .token)) ps
-taken-whole room text ps h = all-map (StandsIn text) _ front-of ps (tokens-stand room text ps h)
-  where
-    front-of : (p : Placed) → StandsIn text p → take (length (spelling (p .token))) (drop (p .start) text) ≡ spelling (p .token)
-    front-of p (rest, e) = ap (take (length (spelling (p .token)))) e ∙ take-append-seam (spelling (p .token)) rest
-
--- A token's kind and characters give it back.
-pub token-coded : (t : Token) → tokenOf (kindOf t) (characters t) ≡ t
-unfolding tokenOf kindOf characters
-token-coded (symbol w) = refl
-token-coded (number d) = refl
-token-coded (quoted c) = refl
-token-coded opening = refl
-token-coded closing = refl
-token-coded semicolon = refl
-token-coded keywordLet = refl
-token-coded keywordIn = refl
-token-coded keywordEnd = refl
-
 -- The characters of a name or number stand in the text, ..
 pub characters-stand :
-    (text : Bytes) (t : Token) (start : ℕ) (rest : Bytes) → drop start text ≡ spelling t ++ rest
-    → take (length (characters t)) (drop (charactersOffset t start) text) ≡ characters t
+    (text : Bytes) (a : Atom) (start : ℕ) (rest : Bytes) → drop start text ≡ spelling (atom a) ++ rest
+    → take (length (characters a)) (drop (charactersOffset a start) text) ≡ characters a
 unfolding charactersOffset spelling characters
 characters-stand text (symbol w) start rest e = ap (take (length w)) e ∙ take-append-seam w rest
 characters-stand text (number d) start rest e = ap (take (length d)) e ∙ take-append-seam d rest
 characters-stand text (quoted n) start rest e =
     ap (take (length n)) (sym (drop-drop 1 start text) ∙ ap (drop 1) e ∙ append-assoc n (39 ∷ []) rest)
     ∙ take-append-seam n (39 ∷ rest)
-characters-stand text opening start rest e = refl
-characters-stand text closing start rest e = refl
-characters-stand text semicolon start rest e = refl
-characters-stand text keywordLet start rest e = refl
-characters-stand text keywordIn start rest e = refl
-characters-stand text keywordEnd start rest e = refl
 
 -- .. and are read off it by the token's kind, offset and length.
 pub characters-coded :
-    (text : Bytes) (t : Token) (start : ℕ) (rest : Bytes) → isContent t ≡ true → drop start text ≡ spelling t ++ rest
-    → charactersIn text (kindOf t) start (length (spelling t)) ≡ characters t
-unfolding isContent charactersIn kindOf spelling characters charactersOffset
-characters-coded text (symbol w) start rest c e = characters-stand text (symbol w) start rest e
-characters-coded text (number d) start rest c e = characters-stand text (number d) start rest e
-characters-coded text (quoted n) start rest c e =
-    let inside : length (spelling (quoted n)) - 2 ≡ length n = omega (arith, length-append n (39 ∷ [])) in
+    (text : Bytes) (a : Atom) (start : ℕ) (rest : Bytes) → drop start text ≡ spelling (atom a) ++ rest
+    → charactersIn text (kindOf (atom a)) start (length (spelling (atom a))) ≡ characters a
+unfolding charactersIn kindOf spelling characters charactersOffset
+characters-coded text (symbol w) start rest e = characters-stand text (symbol w) start rest e
+characters-coded text (number d) start rest e = characters-stand text (number d) start rest e
+characters-coded text (quoted n) start rest e =
+    let inside : length (spelling (atom (quoted n))) - 2 ≡ length n = omega (arith, length-append n (39 ∷ [])) in
     ap (λ k. take k (drop (start + 1) text)) inside ∙ characters-stand text (quoted n) start rest e
-characters-coded text opening start rest c e = absurd (true≢false (sym c))
-characters-coded text closing start rest c e = absurd (true≢false (sym c))
-characters-coded text semicolon start rest c e = absurd (true≢false (sym c))
-characters-coded text keywordLet start rest c e = absurd (true≢false (sym c))
-characters-coded text keywordIn start rest c e = absurd (true≢false (sym c))
-characters-coded text keywordEnd start rest c e = absurd (true≢false (sym c))
+
+-- The kind and the characters of an atom, or the kind of a token of structure, give it back.
+pub atom-coded : (a : Atom) → tokenOf (kindOf (atom a)) (characters a) ≡ atom a
+unfolding tokenOf kindOf characters
+atom-coded (symbol w) = refl
+atom-coded (number d) = refl
+atom-coded (quoted c) = refl
+
+pub structure-coded : (s : Structure) (c : Bytes) → tokenOf (kindOf (structure s)) c ≡ structure s
+unfolding tokenOf kindOf structureNumber
+structure-coded opening c = refl
+structure-coded closing c = refl
+structure-coded semicolon c = refl
+structure-coded keywordLet c = refl
+structure-coded keywordIn c = refl
+structure-coded keywordEnd c = refl
 
 -- The token that stands at its offset is read off the text by its kind, offset and length.
 pub token-read :
     (text : Bytes) (t : Token) (start : ℕ) (rest : Bytes) → drop start text ≡ spelling t ++ rest
     → tokenOf (kindOf t) (charactersIn text (kindOf t) start (length (spelling t))) ≡ t
-unfolding tokenOf kindOf characters isContent
-token-read text (symbol w) start rest e = ap symbol (characters-coded text (symbol w) start rest refl e)
-token-read text (number d) start rest e = ap number (characters-coded text (number d) start rest refl e)
-token-read text (quoted n) start rest e = ap quoted (characters-coded text (quoted n) start rest refl e)
-token-read text opening start rest e = refl
-token-read text closing start rest e = refl
-token-read text semicolon start rest e = refl
-token-read text keywordLet start rest e = refl
-token-read text keywordIn start rest e = refl
-token-read text keywordEnd start rest e = refl
+token-read text (atom a) start rest e = ap (tokenOf (kindOf (atom a))) (characters-coded text a start rest e) ∙ atom-coded a
+token-read text (structure s) start rest e = structure-coded s (charactersIn text (kindOf (structure s)) start (length (spelling (structure s))))
 
 -- Arrays without their first elements.
 tokens-behind :
@@ -276,10 +248,3 @@ pub arrays-tokens :
     → K ≡ map kindAt ps ++ K′ → S ≡ map startAt ps ++ S′ → Z ≡ map sizeAt ps ++ Z′
     → tokensFrom text K S Z 0 (length ps) ≡ tokensOf ps
 arrays-tokens room text ps K S Z K′ S′ Z′ h k s z = rw (k, s, z) (arrays-hold text ps K′ S′ Z′ (tokens-stand room text ps h))
-
-all-stand : (text : Bytes) (ps : List Placed) → All (StandsIn text) ps → AllStand text ps
-all-stand text [] h = tt
-all-stand text (p ∷ ps) h = (h .0, all-stand text ps (h .1))
-
-pub scanned-stand : (room : ℕ) (text : Bytes) (ps : List Placed) → scan room 0 text ≡ passed ps → AllStand text ps
-scanned-stand room text ps h = all-stand text ps (tokens-stand room text ps h)

@@ -6,8 +6,7 @@ use mathlib.Core.Bool.{Bool, true, false, _||_}
 use mathlib.Core.Logic.{_⊎_, inl, inr}
 use mathlib.Core.List.{List, [], _∷_}
 use mathlib.Core.Option.{none, some}
-use Prim.Native.Nat.{ℕ, _≤_}
-use native.Mathlib.Omega.{arith}
+use Prim.Native.Nat.{_≤_}
 use lib.Dec.{leb}
 use borrow.Author.Tests.{leb-true}
 use Rattle.grammar.specs.Bytes.{Bytes, same}
@@ -43,12 +42,12 @@ use Rattle.grammar.specs.Declaration.{
   declare,
   declareAll,
   startDeclarations,
-  start,
+  startTable,
   isPrecedence,
   isDeclaration,
   areDeclarations,
 }
-use Rattle.grammar.proofs.Logic.{and-left, and-right, clash, same-eq, same-refl}
+use Rattle.grammar.proofs.Logic.{and-left, and-right, clash, impossible, same-eq, same-refl}
 use Rattle.grammar.proofs.Positive.{Positive}
 
 -- To be another name is symmetric.
@@ -182,9 +181,9 @@ positive-declared T (d ∷ ds) p e =
     positive-declared (declare T d) ds (positive-declare T d p h) k
 
 -- The precedences at the start are at least 1.
-pub positive-start : Positive start
-unfolding role start startDeclarations areDeclarations isDeclaration allowed isPrecedence value valueFrom
-positive-start = positive-declared [] startDeclarations (λ m f r e. let z : _≡_ {A = ℕ} 0 1 = cc in omega arith) refl
+pub positive-start : Positive startTable
+unfolding role startTable startDeclarations areDeclarations isDeclaration allowed isPrecedence value valueFrom
+positive-start = positive-declared [] startDeclarations (λ m f r e. impossible cc) refl
 
 -- A relation that declarations keep: it holds of a new operator, of a changed one, and where another name changes behind it.
 record Kept (Q : Operator → Table → Type 0) : Type 0 where
@@ -260,8 +259,8 @@ distinct-declared =
       removedBehind = λ o T m e u. listed-removed-other m (o .name) T e ∙ u;
     })
 
-pub distinct-start : Distinct start
-unfolding start
+pub distinct-start : Distinct startTable
+unfolding startTable
 distinct-start = distinct-declared [] startDeclarations tt
 
 or-true : (a : Bool) → a || true ≡ true
@@ -286,8 +285,8 @@ alive-declared =
       removedBehind = λ o T m e u. u;
     })
 
-pub alive-start : Alive start
-unfolding start
+pub alive-start : Alive startTable
+unfolding startTable
 alive-start = alive-declared [] startDeclarations tt
 
 -- A name is listed exactly when it is in force.

@@ -10,30 +10,24 @@ use native.Mathlib.Omega.{arith}
 use lib.Dec.{leb}
 use lib.ListN.{length}
 use borrow.Author.Tests.{leb-true, le-leb}
+use Rattle.grammar.specs.Fault.{longestText, mostTokens}
+use Rattle.grammar.specs.Spans.{Span, startOf}
 use Rattle.grammar.specs.Bytes.{Bytes}
 use Rattle.grammar.specs.Outcome.{Outcome, refused, passed, andThen, placed}
 use Rattle.grammar.specs.Scan.{Placed, scan}
 use Rattle.grammar.specs.Operator.{Conditions}
-use Rattle.grammar.specs.Declaration.{start}
+use Rattle.grammar.specs.Declaration.{startTable}
 use Rattle.grammar.specs.Nesting.{nesting}
 use Rattle.grammar.specs.SpanTree.{SpanTree}
 use Rattle.grammar.specs.Tree.{Tree, IsTree}
 use Rattle.grammar.specs.Search.{treeOfSpan}
-use Rattle.grammar.specs.Blocks.{Span, firstWithout, checkBlocks, treeOf}
-use Rattle.grammar.specs.Answer.{
-  Reading,
-  Past,
-  tokensOf,
-  offsetOf,
-  spanOffset,
-  found,
-  readSpans,
-  readTokens,
-  readText,
-  longestText,
-  mostTokens,
-}
-use Rattle.grammar.specs.Claim.{spansOf, HasNoTree, FirstWithout}
+use Rattle.grammar.specs.Blocks.{firstWithout, checkBlocks, treeOf, treelessOpener, treeIn}
+use Rattle.grammar.specs.Answer.{Reading, PastChecks, tokensOf, offsetOf, spanOffset, readSpans, readTokens, readText, spansOf}
+use Rattle.grammar.specs.Claim.{HasNoTree}
+use Rattle.grammar.proofs.Scanned.{length-tokens}
+use Rattle.grammar.proofs.CheckedTrees.{IsCheckedTree, checked-tree}
+use Rattle.grammar.proofs.BlocksLawful.{tree-checked}
+use Rattle.grammar.proofs.Operands.{Operated, treeIn-operated}
 use Rattle.grammar.proofs.Lists.{all-right}
 use Rattle.grammar.proofs.SpanSearch.{treeOfSpan-sound, treeOfSpan-complete}
 use Rattle.grammar.proofs.SpanOrder.{first-by-start}
@@ -52,113 +46,110 @@ use Rattle.grammar.proofs.Spans.{
   LawfulSpan,
   spans-lawful,
 }
+use Rattle.grammar.proofs.Logic.{impossible}
 
-pub length-tokens : (ps : List Placed) → length (tokensOf ps) ≡ length ps
-unfolding tokensOf
-length-tokens [] = refl
-length-tokens (p ∷ ps) = ap suc (length-tokens ps)
+clashing : {A : Type 0} {o : Option A} {a : A} → o ≡ some a → o ≡ none → ⊥
+clashing e f = impossible cc
 
 -- A check whose places are put into bytes passes as it does.
-placed-passed : {A : Type 0} (f : ℕ → ℕ) (o : Outcome A) (a : A) → placed f o ≡ passed a → o ≡ passed a
+pub placed-passed : {A : Type 0} (f : ℕ → ℕ) (o : Outcome A) (a : A) → placed f o ≡ passed a → o ≡ passed a
 unfolding placed
-placed-passed f (refused n p) a e = let z : _≡_ {A = ℕ} 0 1 = cc in absurd (omega arith)
+placed-passed f (refused n p) a e = impossible cc
 placed-passed f (passed b) a e = e
 
 placed-refused : {A : Type 0} (f : ℕ → ℕ) (o : Outcome A) (n p : ℕ) → placed f o ≡ refused n p → (q : ℕ) × (o ≡ refused n q)
 unfolding placed
 placed-refused f (refused m q) n p e = (q, cc)
-placed-refused f (passed b) n p e = let z : _≡_ {A = ℕ} 0 1 = cc in absurd (omega arith)
+placed-refused f (passed b) n p e = impossible cc
 
 -- Past checks 1 to 10 only check 11 is left.
-pub past-reads : (text : Bytes) (ps : List Placed) → Past text ps → readText text ≡ readSpans text ps (firstWithout (spansOf ps))
+pub past-reads : (text : Bytes) (ps : List Placed) → PastChecks text ps → readText text ≡ readSpans text ps (treeOf startTable (tokensOf ps))
 unfolding readText readTokens andThen placed
 past-reads text ps h =
     let b = h .nested in
     let c = h .declared in
     rw (le-leb (length text) longestText (h .short), h .scanned, readText) (rw (b, c))
 
-found-tokens :
-    (ps : List Placed) (o : Option Tree) (r : Reading) → found ps o ≡ passed r → (r .tokens ≡ ps) × (_≡_ {A = Option (Option ℕ)} none none) × (o ≡ some (r .tree))
-unfolding found
-found-tokens ps none r e = let z : _≡_ {A = ℕ} 0 1 = cc in absurd (omega arith)
-found-tokens ps (some t) r e =
-    let g : record { tokens = ps; tree = t } ≡ r = cc in
-    (ap (λ x. x .tokens) (sym g), refl, ap (λ x. some (x .tree)) g)
-
 readSpans-found :
-    (text : Bytes) (ps : List Placed) (o : Option (Option ℕ)) (r : Reading) → readSpans text ps o ≡ passed r
-    → (r .tokens ≡ ps) × (o ≡ none) × (treeOf start (tokensOf ps) ≡ some (r .tree))
+    (text : Bytes) (ps : List Placed) (o : Option Tree) (r : Reading) → readSpans text ps o ≡ passed r → (r .tokens ≡ ps) × (o ≡ some (r .tree))
 unfolding readSpans
-readSpans-found text ps (some o) r e = let z : _≡_ {A = ℕ} 0 1 = cc in absurd (omega arith)
-readSpans-found text ps none r e = found-tokens ps (treeOf start (tokensOf ps)) r e
+readSpans-found text ps none r e = impossible cc
+readSpans-found text ps (some t) r e =
+    let g : record { tokens = ps; tree = t } ≡ r = cc in
+    (ap (λ x. x .tokens) (sym g), ap (λ x. some (x .tree)) g)
 
 readTokens-past :
     (text : Bytes) (ps : List Placed) (r : Reading) → length text ≤ longestText → scan mostTokens 0 text ≡ passed ps → readTokens text ps ≡ passed r
-    → Past text ps × (readSpans text ps (firstWithout (spansOf ps)) ≡ passed r)
+    → PastChecks text ps × (readSpans text ps (treeOf startTable (tokensOf ps)) ≡ passed r)
 unfolding readTokens
 readTokens-past text ps r n q e =
     let f = offsetOf text ps in
     let a =
     andThen-passed (placed f (nesting [] 0 (tokensOf ps)))
-    (λ u. andThen (placed f (checkBlocks (suc (length ps)) start 0 (tokensOf ps))) (λ v. readSpans text ps (firstWithout (spansOf ps)))) r e in
+    (λ u. andThen (placed f (checkBlocks (suc (length ps)) startTable 0 (tokensOf ps))) (λ v. readSpans text ps (treeOf startTable (tokensOf ps)))) r e in
     let b =
-    andThen-passed (placed f (checkBlocks (suc (length ps)) start 0 (tokensOf ps)))
-    (λ v. readSpans text ps (firstWithout (spansOf ps))) r (a .2) in (
+    andThen-passed (placed f (checkBlocks (suc (length ps)) startTable 0 (tokensOf ps)))
+    (λ v. readSpans text ps (treeOf startTable (tokensOf ps))) r (a .2) in (
       record {
         short = n;
         scanned = q;
         nested = placed-passed f (nesting [] 0 (tokensOf ps)) (a .0) (a .1);
-        declared = placed-passed f (checkBlocks (suc (length ps)) start 0 (tokensOf ps)) (b .0) (b .1);
+        declared = placed-passed f (checkBlocks (suc (length ps)) startTable 0 (tokensOf ps)) (b .0) (b .1);
       },
       b .2,
     )
 
 -- A text that is read is past checks 1 to 10.
-read-past : (text : Bytes) (r : Reading) → readText text ≡ passed r → (ps : List Placed) × Past text ps × (readSpans text ps (firstWithout (spansOf ps)) ≡ passed r)
+read-past : (text : Bytes) (r : Reading) → readText text ≡ passed r → (ps : List Placed) × PastChecks text ps × (readSpans text ps (treeOf startTable (tokensOf ps)) ≡ passed r)
 unfolding readText
 read-past text r e = go (leb (length text) longestText) refl
   where
-    go : (b : Bool) → leb (length text) longestText ≡ b → (ps : List Placed) × Past text ps × (readSpans text ps (firstWithout (spansOf ps)) ≡ passed r)
+    go : (b : Bool) → leb (length text) longestText ≡ b → (ps : List Placed) × PastChecks text ps × (readSpans text ps (treeOf startTable (tokensOf ps)) ≡ passed r)
     go true q =
         let a = andThen-passed (scan mostTokens 0 text) (readTokens text) r (rw (q, readText) at e) in
         let h = readTokens-past text (a .0) r (leb-true (length text) longestText q) (a .1) (a .2) in
         (a .0, h .0, h .1)
-    go false q = let f : refused 1 longestText ≡ passed r = rw (q, readText) at e in let z : _≡_ {A = ℕ} 0 1 = cc in absurd (omega arith)
+    go false q = let f : refused 1 longestText ≡ passed r = rw (q, readText) at e in impossible cc
 
 -- Nested tokens are nested wherever they begin.
-pub nested-tokens : (text : Bytes) (ps : List Placed) → Past text ps → Nested (tokensOf ps)
+pub nested-tokens : (text : Bytes) (ps : List Placed) → PastChecks text ps → Nested (tokensOf ps)
 nested-tokens text ps h i = nesting-anywhere (tokensOf ps) [] 0 i (h .nested)
 
+-- Every tree of a text past checks 1 to 10 is one whose blocks are checked.
+pub text-checked :
+    (text : Bytes) (ps : List Placed) → PastChecks text ps → (t : Tree) → IsTree startTable (tokensOf ps) t → IsCheckedTree startTable (tokensOf ps) t
+text-checked text ps h t = tree-checked (suc (length ps)) startTable 0 (tokensOf ps) t (rw (length-tokens ps) (omega arith)) (h .declared)
+
 -- What is read is a tree of the text's own tokens ..
-pub reading-tree : (text : Bytes) (r : Reading) → readText text ≡ passed r → Past text (r .tokens) × IsTree start (tokensOf (r .tokens)) (r .tree)
+pub reading-checked : (text : Bytes) (r : Reading) → readText text ≡ passed r → PastChecks text (r .tokens) × IsCheckedTree startTable (tokensOf (r .tokens)) (r .tree)
 unfolding treeOf
-reading-tree text r e =
+reading-checked text r e =
     let h = read-past text r e in
     let ps = h .0 in
-    let g = readSpans-found text ps (firstWithout (spansOf ps)) r (h .2) in
+    let g = readSpans-found text ps (treeOf startTable (tokensOf ps)) r (h .2) in
     let t =
-    treeIn-sound (suc (length (tokensOf ps))) (suc (length ps)) start 0 (tokensOf ps) (r .tree) (nested-tokens text ps (h .1))
-    (rw (length-tokens ps) (omega arith)) (h .1 .declared) (g .2) in
+    treeIn-sound (suc (length (tokensOf ps))) (suc (length ps)) startTable 0 (tokensOf ps) (r .tree) (nested-tokens text ps (h .1))
+    (rw (length-tokens ps) (omega arith)) (h .1 .declared) (g .1) in
     (rw (g .0) (h .1), rw (g .0) t)
 
--- .. and the only one.
-pub reading-only :
-    (text : Bytes) (r : Reading) → readText text ≡ passed r → (t : Tree) → IsTree start (tokensOf (r .tokens)) t → t ≡ r .tree
-reading-only text r e t h =
-    tree-unique start conditions-start (tokensOf (r .tokens)) t (r .tree) h (reading-tree text r e .1)
+pub reading-tree : (text : Bytes) (r : Reading) → readText text ≡ passed r → PastChecks text (r .tokens) × IsTree startTable (tokensOf (r .tokens)) (r .tree)
+reading-tree text r e = let (h, i) = reading-checked text r e in (h, checked-tree i)
+
+-- .. whose operators have operands ..
+pub reading-operated : (text : Bytes) (r : Reading) → readText text ≡ passed r → Operated (r .tree)
+unfolding treeOf
+reading-operated text r e =
+    let h = read-past text r e in
+    let g = readSpans-found text (h .0) (treeOf startTable (tokensOf (h .0))) r (h .2) in
+    treeIn-operated (suc (length (tokensOf (h .0)))) startTable (tokensOf (h .0)) (r .tree) (g .1)
 
 -- A text past checks 1 to 10 that has a tree is read, and that tree is what is read.
 pub tree-read :
-    (text : Bytes) (ps : List Placed) → Past text ps → (t : Tree) → IsTree start (tokensOf ps) t
+    (text : Bytes) (ps : List Placed) → PastChecks text ps → (t : Tree) → IsTree startTable (tokensOf ps) t
     → readText text ≡ passed (record { tokens = ps; tree = t })
-unfolding readSpans found treeOf
+unfolding readSpans
 tree-read text ps h t i =
-    let e = treeOf-complete start conditions-start (tokensOf ps) t i in
-    let n = firstWithout-all (spansOf ps) (spans-have (suc (length ps)) (suc (length (tokensOf ps))) start none 0 (tokensOf ps) t e) in
-    past-reads text ps h ∙ ap (readSpans text ps) n ∙ ap (found ps) e
-
-clashing : {A : Type 0} {o : Option A} {a : A} → o ≡ some a → o ≡ none → _≡_ {A = ℕ} 0 1
-clashing e f = cc
+    past-reads text ps h ∙ ap (readSpans text ps) (treeOf-complete startTable conditions-start (tokensOf ps) t (text-checked text ps h t i))
 
 -- A text past checks 1 to 10 that has no tree is refused with 11, at the first of its spans that has none.
 span-among : (ss xs ys : List Span) (s : Span) → ss ≡ xs ++ s ∷ ys → List·Memᴰ s ss
@@ -171,13 +162,21 @@ not-found s h = go (treeOfSpan (s .table) (s .contents)) refl
     go none e = e
     go (some t) e = absurd (h t (treeOfSpan-sound (s .table) (s .contents) t e))
 
+-- The first span without a tree, by the list of spans, and its place.
+pub record FirstListed (text : Bytes) (ps : List Placed) (p : ℕ) : Type 0 where
+  pub span : Span
+  pub among : List·Memᴰ span (spansOf ps)
+  pub treeless : HasNoTree span
+  pub first : (s : Span) → List·Memᴰ s (spansOf ps) → HasNoTree s → startOf (span .opener) ≤ startOf (s .opener)
+  pub offset : p ≡ spanOffset text ps (span .opener)
+
 refusal-at :
-    (text : Bytes) (ps : List Placed) → Past text ps → (o : Option ℕ) → firstWithout (spansOf ps) ≡ some o
-    → FirstWithout text ps (spanOffset text ps o)
+    (text : Bytes) (ps : List Placed) → PastChecks text ps → (o : Option ℕ) → firstWithout (spansOf ps) ≡ some o
+    → FirstListed text ps (spanOffset text ps o)
 refusal-at text ps h o e =
     let f = firstWithout-some (spansOf ps) o e in
     let l =
-    spans-lawful (suc (length ps)) (suc (length ps)) start none 0 0 (tokensOf ps) conditions-start (nested-tokens text ps h)
+    spans-lawful (suc (length ps)) (suc (length ps)) startTable none 0 0 (tokensOf ps) conditions-start (nested-tokens text ps h)
     (rw (length-tokens ps) (omega arith)) (h .declared) in
     let k : Conditions (f .span .table) = (all-right LawfulSpan (f .before) (f .span ∷ f .after) (rw (f .cut) at l)) .0 in
     let q : f .span .opener ≡ o = f .opened in
@@ -187,83 +186,108 @@ refusal-at text ps h o e =
       treeless =
           λ s i.
           let w = treeOfSpan-complete (f .span .table) k (f .span .contents) s i in
-          let z : _≡_ {A = ℕ} 0 1 = clashing w (f .without) in
-          omega arith;
-      first = λ s m n. rw q (first-by-start (suc (length ps)) start (tokensOf ps) (h .nested) o e s m (not-found s n));
+          clashing w (f .without);
+      first = λ s m n. rw q (first-by-start (suc (length ps)) startTable (tokensOf ps) (h .nested) o e s m (not-found s n));
       offset = ap (spanOffset text ps) (sym q);
     }
 
+-- Where each span has a tree the text has one, ..
+pub spans-pass :
+    (text : Bytes) (ps : List Placed) → PastChecks text ps → firstWithout (spansOf ps) ≡ none
+    → (t : Tree) × (treeOf startTable (tokensOf ps) ≡ some t)
+unfolding treeOf
+spans-pass text ps h e =
+    let n : length (tokensOf ps) < suc (length ps) = rw (length-tokens ps) (omega arith) in
+    let t = spans-hang (suc (length ps)) startTable none 0 (tokensOf ps) (nested-tokens text ps h) n (firstWithout-none (spansOf ps) e) in
+    (t .0, ap (λ k. treeIn (suc k) startTable (tokensOf ps)) (length-tokens ps) ∙ t .1)
+
+-- .. and where one has none the text has none.
+pub spans-refuse :
+    (ps : List Placed) (o : Option ℕ) → firstWithout (spansOf ps) ≡ some o → treeOf startTable (tokensOf ps) ≡ none
+unfolding treeOf
+spans-refuse ps o e = go (treeOf startTable (tokensOf ps)) refl
+  where
+    go : (f : Option Tree) → treeOf startTable (tokensOf ps) ≡ f → treeOf startTable (tokensOf ps) ≡ none
+    go none q = q
+    go (some t) q =
+        absurd
+        (clashing e
+        (firstWithout-all (spansOf ps) (spans-have (suc (length ps)) (suc (length (tokensOf ps))) startTable none 0 (tokensOf ps) t q)))
+
 pub treeless-refused :
-    (text : Bytes) (ps : List Placed) → Past text ps → ((t : Tree) → IsTree start (tokensOf ps) t → ⊥)
-    → (p : ℕ) × (readText text ≡ refused 11 p) × FirstWithout text ps p
-unfolding readSpans
+    (text : Bytes) (ps : List Placed) → PastChecks text ps → ((t : Tree) → IsTree startTable (tokensOf ps) t → ⊥)
+    → (p : ℕ) × (readText text ≡ refused 11 p) × FirstListed text ps p
+unfolding readSpans treelessOpener treeOf
 treeless-refused text ps h never = go (firstWithout (spansOf ps)) refl
   where
-    go : (o : Option (Option ℕ)) → firstWithout (spansOf ps) ≡ o → (p : ℕ) × (readText text ≡ refused 11 p) × FirstWithout text ps p
+    go : (o : Option (Option ℕ)) → firstWithout (spansOf ps) ≡ o → (p : ℕ) × (readText text ≡ refused 11 p) × FirstListed text ps p
     go none e =
-        let n : length (tokensOf ps) < suc (length ps) = rw (length-tokens ps) (omega arith) in
-        let t =
-        spans-hang (suc (length ps)) start none 0 (tokensOf ps) (nested-tokens text ps h) n
-        (firstWithout-none (spansOf ps) e) in
+        let t = spans-pass text ps h e in
         absurd
         (never (t .0)
-        (treeIn-sound (suc (length ps)) (suc (length ps)) start 0 (tokensOf ps) (t .0) (nested-tokens text ps h) n (h .declared) (t .1)))
-    go (some o) e = (spanOffset text ps o, past-reads text ps h ∙ ap (readSpans text ps) e, refusal-at text ps h o e)
+        (checked-tree
+        (treeIn-sound (suc (length (tokensOf ps))) (suc (length ps)) startTable 0 (tokensOf ps) (t .0) (nested-tokens text ps h)
+        (rw (length-tokens ps) (omega arith)) (h .declared) (t .1))))
+    go (some o) e = (
+      spanOffset text ps o,
+      past-reads text ps h ∙ ap (readSpans text ps) (spans-refuse ps o e) ∙ ap (λ w. refused 11 (spanOffset text ps w)) (rw (e, treelessOpener)),
+      refusal-at text ps h o e,
+    )
 
 -- A refusal with 11 comes past checks 1 to 10 only: the other checks have other numbers.
 eleven-tokens :
     (text : Bytes) (ps : List Placed) (p : ℕ) → length text ≤ longestText → scan mostTokens 0 text ≡ passed ps → readTokens text ps ≡ refused 11 p
-    → Past text ps
+    → PastChecks text ps
 unfolding readTokens
 eleven-tokens text ps p n q e =
     go
     (andThen-refused (placed f (nesting [] 0 (tokensOf ps)))
-    (λ u. andThen (placed f (checkBlocks (suc (length ps)) start 0 (tokensOf ps))) (λ v. readSpans text ps (firstWithout (spansOf ps)))) 11 p e)
+    (λ u. andThen (placed f (checkBlocks (suc (length ps)) startTable 0 (tokensOf ps))) (λ v. readSpans text ps (treeOf startTable (tokensOf ps)))) 11 p e)
   where
     f : ℕ → ℕ
     f = offsetOf text ps
 
     checked :
         nesting [] 0 (tokensOf ps) ≡ passed tt
-        → (placed f (checkBlocks (suc (length ps)) start 0 (tokensOf ps)) ≡ refused 11 p)
-        ⊎ ((u : Unit {0}) × (placed f (checkBlocks (suc (length ps)) start 0 (tokensOf ps)) ≡ passed u) × (readSpans text ps (firstWithout (spansOf ps)) ≡ refused 11 p))
-        → Past text ps
+        → (placed f (checkBlocks (suc (length ps)) startTable 0 (tokensOf ps)) ≡ refused 11 p)
+        ⊎ ((u : Unit {0}) × (placed f (checkBlocks (suc (length ps)) startTable 0 (tokensOf ps)) ≡ passed u) × (readSpans text ps (treeOf startTable (tokensOf ps)) ≡ refused 11 p))
+        → PastChecks text ps
     checked h (inl b) =
-        let c = placed-refused f (checkBlocks (suc (length ps)) start 0 (tokensOf ps)) 11 p b in
-        absurd (omega (arith, blocks-number (suc (length ps)) start 0 (tokensOf ps) 11 (c .0) (c .1)))
+        let c = placed-refused f (checkBlocks (suc (length ps)) startTable 0 (tokensOf ps)) 11 p b in
+        absurd (omega (arith, blocks-number (suc (length ps)) startTable 0 (tokensOf ps) 11 (c .0) (c .1)))
     checked h (inr b) =
-        record { short = n; scanned = q; nested = h; declared = placed-passed f (checkBlocks (suc (length ps)) start 0 (tokensOf ps)) (b .0) (b .1) }
+        record { short = n; scanned = q; nested = h; declared = placed-passed f (checkBlocks (suc (length ps)) startTable 0 (tokensOf ps)) (b .0) (b .1) }
 
     go :
         (placed f (nesting [] 0 (tokensOf ps)) ≡ refused 11 p)
         ⊎ ((u : Unit {0}) × (placed f (nesting [] 0 (tokensOf ps)) ≡ passed u)
-        × (andThen (placed f (checkBlocks (suc (length ps)) start 0 (tokensOf ps))) (λ v. readSpans text ps (firstWithout (spansOf ps))) ≡ refused 11 p))
-        → Past text ps
+        × (andThen (placed f (checkBlocks (suc (length ps)) startTable 0 (tokensOf ps))) (λ v. readSpans text ps (treeOf startTable (tokensOf ps))) ≡ refused 11 p))
+        → PastChecks text ps
     go (inl a) =
         let c = placed-refused f (nesting [] 0 (tokensOf ps)) 11 p a in
         absurd (omega (arith, nesting-number [] 0 (tokensOf ps) 11 (c .0) (c .1)))
     go (inr a) =
         checked (placed-passed f (nesting [] 0 (tokensOf ps)) (a .0) (a .1))
-        (andThen-refused (placed f (checkBlocks (suc (length ps)) start 0 (tokensOf ps))) (λ v. readSpans text ps (firstWithout (spansOf ps))) 11 p (a .2))
+        (andThen-refused (placed f (checkBlocks (suc (length ps)) startTable 0 (tokensOf ps))) (λ v. readSpans text ps (treeOf startTable (tokensOf ps))) 11 p (a .2))
 
-eleven-past : (text : Bytes) (p : ℕ) → readText text ≡ refused 11 p → (ps : List Placed) × Past text ps
+eleven-past : (text : Bytes) (p : ℕ) → readText text ≡ refused 11 p → (ps : List Placed) × PastChecks text ps
 unfolding readText
 eleven-past text p e = go (leb (length text) longestText) refl
   where
     scanned :
         length text ≤ longestText
         → (scan mostTokens 0 text ≡ refused 11 p) ⊎ ((ps : List Placed) × (scan mostTokens 0 text ≡ passed ps) × (readTokens text ps ≡ refused 11 p))
-        → (ps : List Placed) × Past text ps
+        → (ps : List Placed) × PastChecks text ps
     scanned n (inl a) = absurd (omega (arith, scan-number mostTokens 0 text 11 p a))
     scanned n (inr a) = (a .0, eleven-tokens text (a .0) p n (a .1) (a .2))
 
-    go : (b : Bool) → leb (length text) longestText ≡ b → (ps : List Placed) × Past text ps
+    go : (b : Bool) → leb (length text) longestText ≡ b → (ps : List Placed) × PastChecks text ps
     go true q =
         scanned (leb-true (length text) longestText q)
         (andThen-refused (scan mostTokens 0 text) (readTokens text) 11 p (rw (q, readText) at e))
     go false q =
         let f : _≡_ {A = Outcome Reading} (refused 1 longestText) (refused 11 p) = rw (q, readText) at e in
-        let z : _≡_ {A = ℕ} 1 11 = cc in absurd (omega arith)
+        impossible cc
 
 refused-place : {o : Outcome Reading} {n m p q : ℕ} → o ≡ refused n p → o ≡ refused m q → p ≡ q
 refused-place d e = cc
@@ -271,12 +295,12 @@ refused-place d e = cc
 -- A text refused with 11 has no tree, and the place is that of its first span without one.
 pub refused-treeless :
     (text : Bytes) (p : ℕ) → readText text ≡ refused 11 p
-    → (ps : List Placed) × Past text ps × ((t : Tree) → IsTree start (tokensOf ps) t → ⊥) × FirstWithout text ps p
+    → (ps : List Placed) × PastChecks text ps × ((t : Tree) → IsTree startTable (tokensOf ps) t → ⊥) × FirstListed text ps p
 refused-treeless text p e =
     let h = eleven-past text p e in
     let ps = h .0 in
-    let never : (t : Tree) → IsTree start (tokensOf ps) t → ⊥ =
-    λ t i. let g = tree-read text ps (h .1) t i in let z : _≡_ {A = ℕ} 0 1 = cc in omega arith in
+    let never : (t : Tree) → IsTree startTable (tokensOf ps) t → ⊥ =
+    λ t i. let g = tree-read text ps (h .1) t i in impossible cc in
     let q = treeless-refused text ps (h .1) never in
     let s : q .0 ≡ p = refused-place (q .1) e in
     (ps, h .1, never, rw s at (q .2))

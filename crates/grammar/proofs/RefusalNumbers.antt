@@ -7,12 +7,26 @@ use Prim.Native.Nat.{ℕ, zero, suc, _+_, _≤_}
 use native.Mathlib.Omega.{arith}
 use lib.Dec.{leb, ltb, eqb}
 use lib.ListN.{length, drop, getD}
+use Rattle.grammar.specs.Open.{Open, deepest}
 use Rattle.grammar.specs.Bytes.{Bytes}
-use Rattle.grammar.specs.Token.{Token, class, isBlankByte, letter, digit, sign, quote, opens, closes, separates, inQuotes, longestName}
+use Rattle.grammar.specs.Token.{
+  Token,
+  class,
+  isBlankByte,
+  letter,
+  digit,
+  sign,
+  quote,
+  opens,
+  closes,
+  separates,
+  inQuotes,
+  longestName,
+}
 use Rattle.grammar.specs.Outcome.{Outcome, refused, passed, andThen, placed}
 use Rattle.grammar.specs.Operator.{Table, lawfulTable}
 use Rattle.grammar.specs.Scan.{Placed, run, Front, nothing, wrong, taken, atMost, quotedName, frontOf, front, before, scan}
-use Rattle.grammar.specs.Nesting.{Open, Move, stays, broken, enters, becomes, leaves, move, closeInnermost, deepest, nesting}
+use Rattle.grammar.specs.Nesting.{Move, stays, broken, enters, becomes, leaves, move, closeInnermost, nesting}
 use Rattle.grammar.specs.Declaration.{Parsed, unfit, parsed, declaration, declare, declarationTokens, hasRoom, checkedAt, enter}
 use Rattle.grammar.specs.Span.{Item, single, pair, scope, items}
 use Rattle.grammar.specs.Blocks.{checkItem, checkItems, checkBlocks}

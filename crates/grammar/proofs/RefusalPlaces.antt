@@ -8,11 +8,12 @@ use Prim.Native.Nat.{ℕ, zero, suc, _+_, _≤_, _<_}
 use native.Mathlib.Omega.{arith}
 use lib.Dec.{ltb}
 use lib.ListN.{length, length-append}
+use Rattle.grammar.specs.Open.{Open, deepest}
 use Rattle.grammar.specs.Bytes.{Bytes, same}
-use Rattle.grammar.specs.Token.{Token, closing, keywordIn, keywordEnd}
+use Rattle.grammar.specs.Token.{structure, Token, closing, keywordIn, keywordEnd}
 use Rattle.grammar.specs.Outcome.{Outcome, refused, passed}
 use Rattle.grammar.specs.Operator.{Fixity, Associativity, Table, lawfulTable}
-use Rattle.grammar.specs.Nesting.{Open, Move, stays, broken, enters, becomes, leaves, move, closeInnermost, deepest, nesting}
+use Rattle.grammar.specs.Nesting.{Move, stays, broken, enters, becomes, leaves, move, closeInnermost, nesting}
 use Rattle.grammar.specs.Declaration.{
   Declaration,
   declares,
@@ -39,10 +40,10 @@ use Rattle.grammar.specs.Declaration.{
   checkedAt,
   enter,
 }
-use Rattle.grammar.specs.Span.{Item, single, pair, scope, itemTokens, items}
+use Rattle.grammar.specs.Span.{Item, single, pair, scope, itemTokens, items, allItemTokens}
 use Rattle.grammar.specs.Blocks.{checkItem, checkItems, checkBlocks}
 use Rattle.grammar.proofs.Nested.{nesting-anywhere}
-use Rattle.grammar.proofs.ItemsNested.{Passes, ItemNested, AllNested, allItemTokens, items-tokens, items-nested}
+use Rattle.grammar.proofs.ItemsNested.{Passes, ItemNested, AllNested, items-tokens, items-nested}
 use Rattle.grammar.proofs.Declarations.{declaration-sound}
 use Rattle.grammar.proofs.RefusalNumbers.{Refuses, refuses-holds, refuses-andThen, choice}
 
@@ -156,10 +157,10 @@ module _ (m : ℕ) where
     checkItem-below : (T : Table) (i : ℕ) (x : Item) → ItemNested x → i + length (itemTokens x) ≤ m → Below m (checkItem inner T i x)
     unfolding checkItem itemTokens
     checkItem-below T i (single t) n h = tt
-    checkItem-below T i (pair ts) n h = below T (suc i) ts n (omega (arith, length-append ts (closing ∷ [])))
+    checkItem-below T i (pair ts) n h = below T (suc i) ts n (omega (arith, length-append ts (structure closing ∷ [])))
     checkItem-below T i (scope ds ts) n h =
-        let e = length-append (ds ++ keywordIn ∷ ts) (keywordEnd ∷ []) in
-        let f = length-append ds (keywordIn ∷ ts) in
+        let e = length-append (ds ++ structure keywordIn ∷ ts) (structure keywordEnd ∷ []) in
+        let f = length-append ds (structure keywordIn ∷ ts) in
         refuses-andThen (λ n p. p < m) (enter (length ds) T (suc i) ds) _ (enter-below (length ds) T (suc i) ds (omega arith))
         (λ U. below U (suc (suc (i + length ds))) ts (n .1) (omega arith))
 

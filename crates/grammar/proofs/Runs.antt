@@ -12,6 +12,8 @@ use lib.Seq.{take-append-seam, getD-append-seam}
 use borrow.Author.Tests.{eqb-true, eq-eqb, leb-true, le-leb, not-true}
 use Rattle.grammar.specs.Bytes.{Bytes, bytes, same, member, every}
 use Rattle.grammar.specs.Token.{
+  atom,
+  structure,
   class,
   letter,
   digit,
@@ -125,11 +127,11 @@ pub front-letter : (s : Bytes) → frontOf letter s ≡ longest inWord longestNa
 unfolding frontOf
 front-letter s = refl
 
-pub front-sign : (s : Bytes) → frontOf sign s ≡ longest inSign longestName symbol s
+pub front-sign : (s : Bytes) → frontOf sign s ≡ longest inSign longestName (λ w. atom (symbol w)) s
 unfolding frontOf
 front-sign s = refl
 
-pub front-digit : (s : Bytes) → frontOf digit s ≡ longest inNumber longestNumber number s
+pub front-digit : (s : Bytes) → frontOf digit s ≡ longest inNumber longestNumber (λ w. atom (number w)) s
 unfolding frontOf
 front-digit s = refl
 
@@ -148,7 +150,7 @@ signs = record {
   first = sign;
   test = inSign;
   most = longestName;
-  make = symbol;
+  make = (λ w. atom (symbol w));
   begun = sign-inSign;
   law = front-sign;
 }
@@ -158,7 +160,7 @@ numbers = record {
   first = digit;
   test = inNumber;
   most = longestNumber;
-  make = number;
+  make = (λ w. atom (number w));
   begun = digit-inNumber;
   law = front-digit;
 }
@@ -183,18 +185,16 @@ unfolding isNumber inNumber isRun
 number-run [] = refl
 number-run (b ∷ d) = refl
 
--- A word, a sign or a number is taken.
-front-run
-    : (k : Kind) (w s : Bytes) → isRun k w ≡ true → length w ≤ k .most → Stops (k .test) s
-    → front (w ++ s) ≡ taken (k .make w) (length w)
-unfolding front atMost isRun
-front-run k [] s e h h′ = absurd (true≢false (sym e))
-front-run k (b ∷ w) s e h h′ =
+-- A word, a sign or a number at the front is found; ..
+pub front-longest
+    : (k : Kind) (w s : Bytes) → isRun k w ≡ true → Stops (k .test) s → front (w ++ s) ≡ atMost (k .most) (length w) (k .make w)
+unfolding front isRun
+front-longest k [] s e h = absurd (true≢false (sym e))
+front-longest k (b ∷ w) s e h =
     ap (λ c. frontOf c (b ∷ w ++ s)) c
     ∙ k .law (b ∷ w ++ s)
-    ∙ ap (λ n. atMost (k .most) n (k .make (take n (b ∷ w ++ s)))) (run-append (k .test) (b ∷ w) s passes h′)
+    ∙ ap (λ n. atMost (k .most) n (k .make (take n (b ∷ w ++ s)))) (run-append (k .test) (b ∷ w) s passes h)
     ∙ ap (λ v. atMost (k .most) (length (b ∷ w)) (k .make v)) (take-append-seam (b ∷ w) s)
-    ∙ rw (le-leb (length (b ∷ w)) (k .most) h, atMost)
   where
     c : class b ≡ k .first
     c = eqb-true (class b) (k .first) (and-left (eqb (class b) (k .first)) (every (k .test) w) e)
@@ -202,12 +202,19 @@ front-run k (b ∷ w) s e h h′ =
     passes : every (k .test) (b ∷ w) ≡ true
     passes = every-cons (k .test) b w ∙ and-intro (k .begun b c) (and-right (eqb (class b) (k .first)) (every (k .test) w) e)
 
+-- .. it is taken if it is not too long.
+front-run
+    : (k : Kind) (w s : Bytes) → isRun k w ≡ true → length w ≤ k .most → Stops (k .test) s
+    → front (w ++ s) ≡ taken (k .make w) (length w)
+unfolding atMost
+front-run k w s e h h′ = front-longest k w s e h′ ∙ rw (le-leb (length w) (k .most) h, atMost)
+
 -- `n` bytes and then a quote make a quoted name.
 closed : ℕ → Bytes → Bool
 closed n s = leb 1 n && leb n longestName && eqb (getD s n 0) 39
 
 quotedOf : ℕ → Bytes → Front
-quotedOf n s = elim (closed n s) [ true ↦ taken (quoted (take n s)) (n + 2) | false ↦ wrong 3 ]
+quotedOf n s = elim (closed n s) [ true ↦ taken (atom (quoted (take n s))) (n + 2) | false ↦ wrong 3 ]
 
 name-quoted : (s : Bytes) → quotedName s ≡ quotedOf (run inQuotes s) s
 unfolding quotedName quotedOf closed
@@ -218,12 +225,12 @@ unfolding inQuotes
 quote-stops s = refl
 
 -- A quoted name is taken.
-front-quoted : (c s : Bytes) → isToken (quoted c) ≡ true → front (39 ∷ (c ++ 39 ∷ s)) ≡ taken (quoted c) (length c + 2)
+front-quoted : (c s : Bytes) → isToken (atom (quoted c)) ≡ true → front (39 ∷ (c ++ 39 ∷ s)) ≡ taken (atom (quoted c)) (length c + 2)
 unfolding front frontOf class member isToken quotedOf closed
 front-quoted c s e =
     name-quoted (c ++ 39 ∷ s)
     ∙ ap (λ n. quotedOf n (c ++ 39 ∷ s)) (run-append inQuotes c (39 ∷ s) (and-right sized (every inQuotes c) e) (quote-stops s))
-    ∙ rw (ends, quotedOf) (ap (λ v. taken (quoted v) (length c + 2)) (take-append-seam c (39 ∷ s)))
+    ∙ rw (ends, quotedOf) (ap (λ v. taken (atom (quoted v)) (length c + 2)) (take-append-seam c (39 ∷ s)))
   where
     sized : Bool
     sized = leb 1 (length c) && leb (length c) longestName
@@ -235,7 +242,7 @@ or-false : (a b : Bool) → a || b ≡ false → (a ≡ false) × (b ≡ false)
 or-false true b e = absurd (true≢false e)
 or-false false b e = (refl, e)
 
-symbol-unless-keyword : (w : Bytes) → isKeyword w ≡ false → keywordOrSymbol w ≡ symbol w
+symbol-unless-keyword : (w : Bytes) → isKeyword w ≡ false → keywordOrSymbol w ≡ atom (symbol w)
 unfolding isKeyword keywordOrSymbol
 symbol-unless-keyword w e =
     let (h, h₃) = or-false (same w (bytes "let") || same w (bytes "in")) (same w (bytes "end")) e in
@@ -247,16 +254,16 @@ unfolding isSign inSign isWord beginsWord
 sign-not-word [] e = refl
 sign-not-word (b ∷ w) e = rw (eqb-true (class b) sign (and-left (inSign b) (every inSign w) e), isWord)
 
-pub continues-word : (w : Bytes) → isWord w ≡ true → continues (symbol w) ≡ inWord
+pub continues-word : (w : Bytes) → isWord w ≡ true → continues (atom (symbol w)) ≡ inWord
 unfolding continues
 continues-word w e = rw (e, continues)
 
-pub continues-sign : (w : Bytes) → isSign w ≡ true → continues (symbol w) ≡ inSign
+pub continues-sign : (w : Bytes) → isSign w ≡ true → continues (atom (symbol w)) ≡ inSign
 unfolding continues
 continues-sign w e = rw (sign-not-word w e, continues)
 
 front-symbol
-    : (w s : Bytes) → isSymbol w ≡ true → Stops (continues (symbol w)) s → front (w ++ s) ≡ taken (symbol w) (length w)
+    : (w s : Bytes) → isSymbol w ≡ true → Stops (continues (atom (symbol w))) s → front (w ++ s) ≡ taken (atom (symbol w)) (length w)
 unfolding isSymbol
 front-symbol w s e h = go (or-cases (isWord w) (isSign w) (and-left bare (not (isKeyword w)) (and-left named short e)))
   where
@@ -275,7 +282,7 @@ front-symbol w s e h = go (or-cases (isWord w) (isSign w) (and-left bare (not (i
     fits : length w ≤ longestName
     fits = leb-true (length w) longestName (and-right named short e)
 
-    go : (isWord w ≡ true) ⊎ (isSign w ≡ true) → front (w ++ s) ≡ taken (symbol w) (length w)
+    go : (isWord w ≡ true) ⊎ (isSign w ≡ true) → front (w ++ s) ≡ taken (atom (symbol w)) (length w)
     go (inl i) =
         front-run words w s (sym (word-run w) ∙ i) fits (subst (λ p. Stops p s) (continues-word w i) h)
         ∙ ap (λ t. taken t (length w)) (symbol-unless-keyword w no-keyword)
@@ -285,8 +292,8 @@ front-symbol w s e h = go (or-cases (isWord w) (isSign w) (and-left bare (not (i
 pub front-spelled
     : (t : Token) → isToken t ≡ true → (s : Bytes) → Stops (continues t) s → front (spelling t ++ s) ≡ taken t (length (spelling t))
 unfolding isToken spelling continues front frontOf class member isRun every inWord keywordOrSymbol same
-front-spelled (symbol w) e s h = front-symbol w s e h
-front-spelled (number d) e s h =
+front-spelled (atom (symbol w)) e s h = front-symbol w s e h
+front-spelled (atom (number d)) e s h =
     front-run
     numbers
     d
@@ -294,13 +301,13 @@ front-spelled (number d) e s h =
     (sym (number-run d) ∙ and-left (isNumber d) (leb (length d) longestNumber) e)
     (leb-true (length d) longestNumber (and-right (isNumber d) (leb (length d) longestNumber) e))
     h
-front-spelled (quoted c) e s h =
+front-spelled (atom (quoted c)) e s h =
     ap (λ r. front (39 ∷ r)) (append-assoc c (39 ∷ []) s)
     ∙ front-quoted c s e
-    ∙ ap (taken (quoted c)) (simp length-append (omega arith))
-front-spelled opening e s h = refl
-front-spelled closing e s h = refl
-front-spelled semicolon e s h = refl
-front-spelled keywordLet e s h = front-run words (bytes "let") s refl (omega arith) h
-front-spelled keywordIn e s h = front-run words (bytes "in") s refl (omega arith) h
-front-spelled keywordEnd e s h = front-run words (bytes "end") s refl (omega arith) h
+    ∙ ap (taken (atom (quoted c))) (simp length-append (omega arith))
+front-spelled (structure opening) e s h = refl
+front-spelled (structure closing) e s h = refl
+front-spelled (structure semicolon) e s h = refl
+front-spelled (structure keywordLet) e s h = front-run words (bytes "let") s refl (omega arith) h
+front-spelled (structure keywordIn) e s h = front-run words (bytes "in") s refl (omega arith) h
+front-spelled (structure keywordEnd) e s h = front-run words (bytes "end") s refl (omega arith) h

@@ -5,11 +5,13 @@ use mathlib.Core.Bool.{Bool, true, false}
 use mathlib.Core.List.{List, [], _∷_, _++_, append-nil}
 use Prim.Native.Nat.{ℕ, zero, suc, _+_, _≤_, max}
 use native.Mathlib.Omega.{arith}
-use lib.ListN.{length, take, drop, take-append-drop}
+use lib.ListN.{length, take, drop, length-append, take-append-drop}
 use lib.Seq.{drop-length, drop-append-seam, drop-append-add, drop-drop}
 use borrow.Author.Tests.{eqb-true}
 use Rattle.grammar.specs.Bytes.{Bytes, every, member}
 use Rattle.grammar.specs.Token.{
+  atom,
+  structure,
   class,
   blank,
   isBlankByte,
@@ -31,12 +33,12 @@ use Rattle.grammar.specs.Token.{
   isToken,
   areTokens,
 }
-use Rattle.grammar.specs.Spelling.{continues, Stops, Spells, finish, next}
+use Rattle.grammar.specs.Spelling.{continues, Stops, Splits, noMore, oneMore, Spells}
 use Rattle.grammar.specs.Outcome.{Outcome, refused, passed}
 use Rattle.grammar.specs.Scan.{Placed, run, Front, nothing, wrong, taken, frontOf, front, before, scan}
 use Rattle.grammar.specs.Canonical.{spaced, joinTokens}
 use Rattle.grammar.specs.Answer.{tokensOf}
-use Rattle.grammar.proofs.Logic.{and-left, and-right, and-intro}
+use Rattle.grammar.proofs.Logic.{and-left, and-right, and-intro, impossible}
 use Rattle.grammar.proofs.Runs.{run-append, ran, front-spelled}
 use Rattle.grammar.proofs.Taken.{Begins, Told, front-told}
 
@@ -59,12 +61,12 @@ pub counted-last
 unfolding scan
 counted-last at s t m e = rw (e, scan)
 
-scan-end : (room at : ℕ) (s : Bytes) → front (behindBlanks s) ≡ nothing → scan room at s ≡ passed []
+pub scan-end : (room at : ℕ) (s : Bytes) → front (behindBlanks s) ≡ nothing → scan room at s ≡ passed []
 unfolding scan
 scan-end zero at s e = rw (e, scan)
 scan-end (suc room) at s e = rw (e, scan)
 
-scan-next
+pub scan-next
     : (room at : ℕ) (s : Bytes) (t : Token) (m : ℕ) → front (behindBlanks s) ≡ taken t m
     → scan (suc room) at s
     ≡ before
@@ -74,24 +76,24 @@ unfolding scan
 scan-next room at s t m e = rw (e, scan)
 
 pub refused-not-passed : {A : Type 0} {o : Outcome A} {k a : ℕ} {v : A} → o ≡ refused k a → o ≡ passed v → ⊥
-refused-not-passed e h = let z : _≡_ {A = ℕ} 0 1 = cc in omega arith
+refused-not-passed e h = impossible cc
 
 -- No token goes on with a space.
 space-stops : (t : Token) (s : Bytes) → Stops (continues t) (32 ∷ s)
 unfolding continues inWord inSign inNumber class member
-space-stops (symbol w) s = go (isWord w) refl
+space-stops (atom (symbol w)) s = go (isWord w) refl
   where
-    go : (x : Bool) → isWord w ≡ x → continues (symbol w) 32 ≡ false
+    go : (x : Bool) → isWord w ≡ x → continues (atom (symbol w)) 32 ≡ false
     go true e = rw (e, continues)
     go false e = rw (e, continues)
-space-stops (number d) s = refl
-space-stops (quoted c) s = refl
-space-stops opening s = refl
-space-stops closing s = refl
-space-stops semicolon s = refl
-space-stops keywordLet s = refl
-space-stops keywordIn s = refl
-space-stops keywordEnd s = refl
+space-stops (atom (number d)) s = refl
+space-stops (atom (quoted c)) s = refl
+space-stops (structure opening) s = refl
+space-stops (structure closing) s = refl
+space-stops (structure semicolon) s = refl
+space-stops (structure keywordLet) s = refl
+space-stops (structure keywordIn) s = refl
+space-stops (structure keywordEnd) s = refl
 
 spaced-stops : (t : Token) (ts : List Token) → Stops (continues t) (spaced ts)
 unfolding spaced
@@ -103,29 +105,32 @@ unfolding front frontOf isBlankByte
 front-blank b s e = ap (λ c. frontOf c (b ∷ s)) (eqb-true (class b) blank e)
 
 -- No token begins with a blank.
-taken-not-blank : (s : Bytes) (t : Token) (n : ℕ) → front s ≡ taken t n → Stops isBlankByte s
+pub taken-not-blank : (s : Bytes) (t : Token) (n : ℕ) → front s ≡ taken t n → Stops isBlankByte s
 taken-not-blank [] t n e = tt
 taken-not-blank (b ∷ s) t n e = go (isBlankByte b) refl
   where
     go : (x : Bool) → isBlankByte b ≡ x → isBlankByte b ≡ false
     go true h =
         let f : front (b ∷ s) ≡ wrong 2 = front-blank b s h in
-        let z : _≡_ {A = ℕ} 0 1 = cc in
-        absurd (omega arith)
+        impossible cc
     go false h = h
 
 -- The token at the front behind the blanks, and what stands behind the token.
-record Ahead (s : Bytes) (t : Token) (rest : Bytes) : Type 0 where
-  here : front (behindBlanks s) ≡ taken t (length (spelling t))
-  behind : drop (run isBlankByte s + length (spelling t)) s ≡ rest
+pub record Ahead (s : Bytes) (t : Token) (rest : Bytes) : Type 0 where
+  pub here : front (behindBlanks s) ≡ taken t (length (spelling t))
+  pub behind : drop (run isBlankByte s + length (spelling t)) s ≡ rest
+  pub size : run isBlankByte s + length (spelling t) + length rest ≡ length s
 
-ahead
-    : (blanks : Bytes) (t : Token) (rest : Bytes) → every isBlankByte blanks ≡ true → isToken t ≡ true → Stops (continues t) rest
-    → Ahead (blanks ++ (spelling t ++ rest)) t rest
-ahead blanks t rest e h h′ = record {
-  here = ap (λ n. front (drop n s)) skip ∙ ap front (drop-append-seam blanks v) ∙ token;
-  behind = ap (λ n. drop (n + m) s) skip ∙ drop-append-add blanks v m ∙ drop-append-seam (spelling t) rest;
-}
+pub ahead
+    : {s : Bytes} (blanks : Bytes) (t : Token) (rest : Bytes) → s ≡ blanks ++ (spelling t ++ rest) → every isBlankByte blanks ≡ true
+    → isToken t ≡ true → Stops (continues t) rest → Ahead s t rest
+ahead blanks t rest w e h h′ =
+    subst (λ s. Ahead s t rest) (sym w) (
+    record {
+      here = ap (λ n. front (drop n s)) skip ∙ ap front (drop-append-seam blanks v) ∙ token;
+      behind = ap (λ n. drop (n + m) s) skip ∙ drop-append-add blanks v m ∙ drop-append-seam (spelling t) rest;
+      size = omega (arith, skip, length-append blanks v, length-append (spelling t) rest);
+    })
   where
     m : ℕ
     m = length (spelling t)
@@ -149,15 +154,24 @@ all-blank s e = ap (λ n. front (drop n s)) skip ∙ ap front (drop-length s)
     skip : run isBlankByte s ≡ length s
     skip = ap (run isBlankByte) (sym (append-nil s)) ∙ run-append isBlankByte s [] e tt
 
+-- Blanks spell no token; a token before what spells some.
+pub spells-none : {s : Bytes} → every isBlankByte s ≡ true → Spells s []
+spells-none {s} e = record { rest = s; split = noMore; blank = e }
+
+pub spells-next :
+    {s : Bytes} (blanks : Bytes) (t : Token) (rest : Bytes) {ts : List Token} → s ≡ blanks ++ (spelling t ++ rest)
+    → every isBlankByte blanks ≡ true → isToken t ≡ true → Stops (continues t) rest → Spells rest ts → Spells s (t ∷ ts)
+spells-next b t rest w e v h r = record { rest = r .rest; split = oneMore b t rest w e v h (r .split); blank = r .blank }
+
 -- A scan finds what the text spells.
-pub scan-spells
-    : {s : Bytes} {ts : List Token} → Spells s ts → (room at : ℕ) → length ts ≤ room
+scan-splits
+    : {s : Bytes} {ts : List Token} {end : Bytes} → Splits s ts end → every isBlankByte end ≡ true → (room at : ℕ) → length ts ≤ room
     → (ps : List Placed) × (scan room at s ≡ passed ps) × (tokensOf ps ≡ ts)
 unfolding before tokensOf
-scan-spells {s} (finish e) room at h = ([], scan-end room at s (all-blank s e), refl)
-scan-spells (next b t rest w e e′ h′ r) zero at h = absurd (omega arith)
-scan-spells {s} (next b t rest {ts} w e e′ h′ r) (suc room) at h =
-    let (ps, found, same) = scan-spells r room (at + n + m) (omega arith) in (
+scan-splits {s} noMore z room at h = ([], scan-end room at s (all-blank s z), refl)
+scan-splits (oneMore b t rest w e e′ h′ r) z zero at h = absurd (omega arith)
+scan-splits {s} (oneMore b t rest {ts} w e e′ h′ r) z (suc room) at h =
+    let (ps, found, same) = scan-splits r z room (at + n + m) (omega arith) in (
       p ∷ ps,
       scan-next room at s t m (a .here) ∙ ap (λ x. before p (scan room (at + n + m) x)) (a .behind) ∙ ap (before p) found,
       ap (λ x. t ∷ x) same,
@@ -173,7 +187,12 @@ scan-spells {s} (next b t rest {ts} w e e′ h′ r) (suc room) at h =
     p = record { token = t; start = at + n }
 
     a : Ahead s t rest
-    a = subst (λ s. Ahead s t rest) (sym w) (ahead b t rest e e′ h′)
+    a = ahead b t rest w e e′ h′
+
+pub scan-spells
+    : {s : Bytes} {ts : List Token} → Spells s ts → (room at : ℕ) → length ts ≤ room
+    → (ps : List Placed) × (scan room at s ≡ passed ps) × (tokensOf ps ≡ ts)
+scan-spells r = scan-splits (r .split) (r .blank)
 
 -- A text spells one list of tokens.
 pub spells-unique : {s : Bytes} {ts us : List Token} → Spells s ts → Spells s us → ts ≡ us
@@ -187,16 +206,16 @@ spells-behind
     : (b : Bytes) (t : Token) (ts : List Token) → every isBlankByte b ≡ true → areTokens (t ∷ ts) ≡ true → Spells (spaced ts) ts
     → Spells (b ++ (spelling t ++ spaced ts)) (t ∷ ts)
 unfolding areTokens
-spells-behind b t ts e h r = next b t (spaced ts) refl e (and-left (isToken t) (areTokens ts) h) (spaced-stops t ts) r
+spells-behind b t ts e h r = spells-next b t (spaced ts) refl e (and-left (isToken t) (areTokens ts) h) (spaced-stops t ts) r
 
 spells-spaced : (ts : List Token) → areTokens ts ≡ true → Spells (spaced ts) ts
 unfolding spaced areTokens every isBlankByte class
-spells-spaced [] e = finish refl
+spells-spaced [] e = spells-none refl
 spells-spaced (t ∷ ts) e = spells-behind (32 ∷ []) t ts refl e (spells-spaced ts (and-right (isToken t) (areTokens ts) e))
 
 spells-joined : (ts : List Token) → areTokens ts ≡ true → Spells (joinTokens ts) ts
 unfolding joinTokens areTokens every
-spells-joined [] e = finish refl
+spells-joined [] e = spells-none refl
 spells-joined (t ∷ ts) e = spells-behind [] t ts refl e (spells-spaced ts (and-right (isToken t) (areTokens ts) e))
 
 -- Scanning what was written gives back the tokens.
@@ -221,7 +240,7 @@ found-none
     → Found room s ps
 unfolding tokensOf
 found-none room at s ps e h =
-    subst (Found room s) none (record { spelled = finish (ap (every isBlankByte) whole ∙ ran isBlankByte s .passes); fits = omega arith })
+    subst (Found room s) none (record { spelled = spells-none (ap (every isBlankByte) whole ∙ ran isBlankByte s .passes); fits = omega arith })
   where
     n : ℕ
     n = run isBlankByte s
@@ -235,6 +254,35 @@ found-none room at s ps e h =
     none : [] ≡ ps
     none = let f : scan room at s ≡ passed [] = scan-end room at s e in cc
 
+-- The token that is taken behind the blanks stands there, and the text doesn't go on with it.
+pub record Next (s : Bytes) (t : Token) (m : ℕ) : Type 0 where
+  pub rest : Bytes
+  pub written : s ≡ take (run isBlankByte s) s ++ (spelling t ++ rest)
+  pub size : m ≡ length (spelling t)
+  pub valid : isToken t ≡ true
+  pub stops : Stops (continues t) rest
+  pub behind : drop (run isBlankByte s + m) s ≡ rest
+
+pub next-token : (s : Bytes) (t : Token) (m : ℕ) → front (behindBlanks s) ≡ taken t m → Next s t m
+next-token s t m e = record {
+  rest = here .rest;
+  written = sym (take-append-drop n s) ∙ ap (λ v. take n s ++ v) (here .written);
+  size = here .size;
+  valid = here .valid;
+  stops = here .stops;
+  behind =
+      sym (drop-drop m n s)
+      ∙ ap (drop m) (here .written)
+      ∙ ap (λ k. drop k (spelling t ++ here .rest)) (here .size)
+      ∙ drop-append-seam (spelling t) (here .rest);
+}
+  where
+    n : ℕ
+    n = run isBlankByte s
+
+    here : Begins (drop n s) t m
+    here = subst (Told (drop n s)) e (front-told (drop n s))
+
 found-next
     : (room : ℕ) → Finds room → (at : ℕ) (s : Bytes) (t : Token) (m : ℕ) (ps : List Placed) → front (behindBlanks s) ≡ taken t m
     → scan (suc room) at s ≡ passed ps → Found (suc room) s ps
@@ -247,24 +295,14 @@ found-next room finds at s t m ps e h = go (scan room (at + n + m) (drop (n + m)
     p : Placed
     p = record { token = t; start = at + n }
 
-    here : Begins (drop n s) t m
-    here = subst (Told (drop n s)) e (front-told (drop n s))
-
-    whole : s ≡ take n s ++ (spelling t ++ here .rest)
-    whole = sym (take-append-drop n s) ∙ ap (λ v. take n s ++ v) (here .written)
-
-    left : drop (n + m) s ≡ here .rest
-    left =
-        sym (drop-drop m n s)
-        ∙ ap (drop m) (here .written)
-        ∙ ap (λ k. drop k (spelling t ++ here .rest)) (here .size)
-        ∙ drop-append-seam (spelling t) (here .rest)
+    here : Next s t m
+    here = next-token s t m e
 
     more : (qs : List Placed) → Found room (drop (n + m) s) qs → Found (suc room) s (p ∷ qs)
     more qs f =
-        let r : Spells (here .rest) (tokensOf qs) = subst (λ v. Spells v (tokensOf qs)) left (f .spelled) in
+        let r : Spells (here .rest) (tokensOf qs) = subst (λ v. Spells v (tokensOf qs)) (here .behind) (f .spelled) in
         record {
-          spelled = next (take n s) t (here .rest) whole (ran isBlankByte s .passes) (here .valid) (here .stops) r;
+          spelled = spells-next (take n s) t (here .rest) (here .written) (ran isBlankByte s .passes) (here .valid) (here .stops) r;
           fits = omega arith;
         }
 
@@ -292,14 +330,22 @@ finds (suc room) at s ps h = go (finds room) (front (behindBlanks s)) refl
     go ih (wrong k) e = absurd (refused-not-passed (judged-first (suc room) at s k e) h)
     go ih (taken t m) e = found-next room ih at s t m ps e h
 
+pub length-tokens : (ps : List Placed) → length (tokensOf ps) ≡ length ps
+unfolding tokensOf
+length-tokens [] = refl
+length-tokens (p ∷ ps) = ap suc (length-tokens ps)
+
 -- What a scan finds is spelled by the text.
 pub scan-spelled : (room at : ℕ) (s : Bytes) (ps : List Placed) → scan room at s ≡ passed ps → Spells s (tokensOf ps)
 scan-spelled room at s ps h = finds room at s ps h .spelled
 
-pub spells-tokens : {s : Bytes} {ts : List Token} → Spells s ts → areTokens ts ≡ true
+splits-tokens : {s : Bytes} {ts : List Token} {end : Bytes} → Splits s ts end → areTokens ts ≡ true
 unfolding areTokens
-spells-tokens (finish e) = refl
-spells-tokens (next b t rest w e e′ h r) = and-intro e′ (spells-tokens r)
+splits-tokens noMore = refl
+splits-tokens (oneMore b t rest w e e′ h r) = and-intro e′ (splits-tokens r)
+
+pub spells-tokens : {s : Bytes} {ts : List Token} → Spells s ts → areTokens ts ≡ true
+spells-tokens r = splits-tokens (r .split)
 
 -- What a scan finds are tokens, no more than there is room for.
 pub scan-tokens

@@ -20,7 +20,6 @@ use Rattle.grammar.specs.SpanTree.{
   apply,
   yield,
   fixityBy,
-  fixity,
   root,
   rootPrecedence,
   isLeft,
@@ -31,6 +30,7 @@ use Rattle.grammar.specs.SpanTree.{
   admitsEqual,
   Admitted,
   isOperand,
+  roleOfFixity,
 }
 use Rattle.grammar.specs.Search.{
   precedence,
@@ -39,7 +39,7 @@ use Rattle.grammar.specs.Search.{
   precedenceAt,
   widest,
   Split,
-  behind,
+  shifted,
   firstOf,
   lastHere,
   lastOf,
@@ -50,8 +50,9 @@ use Rattle.grammar.specs.Search.{
 use Rattle.grammar.proofs.Logic.{and-right, either, clash}
 use Rattle.grammar.proofs.SpanRoot.{
   Fits,
-  Placed,
-  placed,
+  AdmittingRole,
+  admitting-role,
+  admitting-root,
   root-fixity,
   root-widest,
   admits-precedence,
@@ -72,7 +73,7 @@ below-of T p i h = go (operatorAt T i) refl
         rw (e, operatorOf, ne-eqb (precedence (role T w)) p (omega arith))
 
 below-first : (T : Table) (p : ℕ) (xs : List Item) → widest T xs < p → firstOf T p xs ≡ none
-unfolding widest firstOf behind
+unfolding widest firstOf shifted
 below-first T p [] h = refl
 below-first T p (x ∷ xs) h = rw (below-of T p x (omega arith), firstOf, below-first T p xs (omega arith))
 
@@ -94,14 +95,14 @@ earlier (some c) xs m ys = cutAt (c .before) (c .operator) (c .after ++ single (
 first-cut :
     (T : Table) (p : ℕ) (xs : List Item) (m : Bytes) (ys : List Item) → operatorOf T p (single (symbol m)) ≡ some m
     → firstOf T p (xs ++ single (symbol m) ∷ ys) ≡ some (earlier (firstOf T p xs) xs m ys)
-unfolding firstOf behind
+unfolding firstOf shifted
 first-cut T p [] m ys h = rw (h, firstOf)
 first-cut T p (x ∷ xs) m ys h = go (operatorOf T p x) refl (first-cut T p xs m ys h)
   where
     rest : List Item
     rest = xs ++ single (symbol m) ∷ ys
 
-    later : (f : Option Split) → behind x (some (earlier f xs m ys)) ≡ some (earlier (behind x f) (x ∷ xs) m ys)
+    later : (f : Option Split) → shifted x (some (earlier f xs m ys)) ≡ some (earlier (shifted x f) (x ∷ xs) m ys)
     later none = refl
     later (some c) = refl
 
@@ -114,29 +115,31 @@ first-cut T p (x ∷ xs) m ys h = go (operatorOf T p x) refl (first-cut T p xs m
 last-cut :
     (T : Table) (p : ℕ) (xs : List Item) (m : Bytes) (ys : List Item) → operatorOf T p (single (symbol m)) ≡ some m → lastOf T p ys ≡ none
     → lastOf T p (xs ++ single (symbol m) ∷ ys) ≡ some (cutAt xs m ys)
-unfolding lastOf lastHere behind
+unfolding lastOf lastHere shifted
 last-cut T p [] m ys h e = rw (e, h, lastHere)
 last-cut T p (x ∷ xs) m ys h e = rw (last-cut T p xs m ys h e)
 
 -- The fixity of an operator, by what stands before it and after it.
-abbrev fixityAt : List Item → List Item → Fixity
+abbrev fixityAt : List Item → List Item → Option Fixity
 fixityAt xs ys = fixityBy (not (isEmpty xs)) (not (isEmpty ys))
 
 -- A right-associative root could be so where it is, unless nothing stands after it. One that is not could not be.
 module _ (T : Table) (m : Bytes) (q : Role) where
   right-at-end :
-      (xs ys : List Item) → role T m (fixityAt xs ys) ≡ some q → isRight (q .associativity) ≡ true
+      (xs ys : List Item) → roleOfFixity T m (fixityAt xs ys) ≡ some q → isRight (q .associativity) ≡ true
       → couldBeRight T (cutAt xs m ys) ≡ false → ys ≡ []
-  unfolding couldBeRight fixityBy isEmpty rightRoot
-  right-at-end [] ys e s f = absurd (clash s (rw e at f))
+  unfolding couldBeRight fixityBy isEmpty rightRoot roleOfFixity
+  right-at-end [] [] e s f = refl
+  right-at-end [] (y ∷ ys) e s f = absurd (clash s (rw e at f))
   right-at-end (x ∷ xs) [] e s f = refl
   right-at-end (x ∷ xs) (y ∷ ys) e s f = absurd (clash s (rw e at f))
 
   could-not-be-right :
-      (xs ys : List Item) → Lawful (role T m) → role T m (fixityAt xs ys) ≡ some q → isRight (q .associativity) ≡ false
+      (xs ys : List Item) → Lawful (role T m) → roleOfFixity T m (fixityAt xs ys) ≡ some q → isRight (q .associativity) ≡ false
       → couldBeRight T (cutAt xs m ys) ≡ false
-  unfolding couldBeRight fixityBy isEmpty rightRoot isRight
-  could-not-be-right [] ys h e s = rw (e, s)
+  unfolding couldBeRight fixityBy isEmpty rightRoot isRight roleOfFixity
+  could-not-be-right [] [] h e s = cc
+  could-not-be-right [] (y ∷ ys) h e s = rw (e, s)
   could-not-be-right (x ∷ xs) (y ∷ ys) h e s = rw (e, s)
   could-not-be-right (x ∷ xs) [] h e s = go (role T m Infix) refl
     where
@@ -163,7 +166,7 @@ earlier-not-right T (some c) xs m ys e o = e
 
 -- In an operand no operator is found.
 pub operand-first : (T : Table) (p : ℕ) (i : Item) → isOperand T i ≡ true → firstOf T p (i ∷ []) ≡ none
-unfolding firstOf behind operatorOf
+unfolding firstOf shifted operatorOf
 operand-first T p i e =
     let o : operatorOf T p i ≡ none = rw (operand-no-operator T i e, operatorOf) in
     rw (o, firstOf)
@@ -181,17 +184,18 @@ module _ (T : Table) (lawful : Conditions T) where
 
   -- The root of a tree, with its role `own`.
   module _ (l : SpanTree) (m : Bytes) (r : SpanTree) (a : Admitted T (apply l m r)) where
-    abbrev top : Placed T l m r
-    top = placed T l m r a
+    abbrev top : AdmittingRole T l m r
+    top = admitting-role T l m r a
 
     abbrev own : Role
     own = top .own
 
-    own-at : role T m (fixityAt (yield l) (yield r)) ≡ some own
-    own-at = rw root-fixity at (top .known)
+    own-at : roleOfFixity T m (fixityAt (yield l) (yield r)) ≡ some own
+    unfolding roleOfFixity
+    own-at = rw (← (root-fixity l r), top .formed, roleOfFixity) (top .known)
 
     root-of : operatorOf T (own .precedence) (single (symbol m)) ≡ some m
-    root-of = operator-of T m (fixity l r) own (top .known) (lawful m)
+    root-of = operator-of T m (top .form) own (top .known) (lawful m)
 
     -- The first operator of its precedence is the root or one on its left.
     first-root :
@@ -201,7 +205,7 @@ module _ (T : Table) (lawful : Conditions T) where
 
     root-precedence : rootPrecedence (root T (apply l m r)) ≡ own .precedence
     unfolding root rootPrecedence
-    root-precedence = ap rootPrecedence (top .known)
+    root-precedence = ap rootPrecedence (admitting-root top)
 
   -- Where the root is not right-associative, the first operator of its precedence could not be so.
   first-not-right :
@@ -211,7 +215,7 @@ module _ (T : Table) (lawful : Conditions T) where
   first-not-right (operand i) a e = rw (operand-first T 0 i a)
   first-not-right (apply l m r) a e =
       let before = inLeft (first-not-right l (a .0)) (admits-precedence onLeft q (root T l) (top l m r a .leftFits)) in
-      let itself = could-not-be-right T m q (yield l) (yield r) (lawful m) (own-at l m r a) (rw (top l m r a .known) at e) in
+      let itself = could-not-be-right T m q (yield l) (yield r) (lawful m) (own-at l m r a) (rw (admitting-root (top l m r a)) at e) in
       rw (root-precedence l m r a, first-root l m r a) (earlier-not-right T (firstOf T p (yield l)) (yield l) m (yield r) before itself)
     where
       q : Role
@@ -266,7 +270,7 @@ module _ (T : Table) (lawful : Conditions T) where
         lower = admits-lt onRight (own l m r a) (root T r) (top l m r a .rightFits) s
 
         not-right : couldBeRight T (earlier (firstOf T p (yield l)) (yield l) m (yield r)) ≡ false
-        not-right = rw (root-precedence l m r a, first-root l m r a) at (first-not-right (apply l m r) a (rw (top l m r a .known) s))
+        not-right = rw (root-precedence l m r a, first-root l m r a) at (first-not-right (apply l m r) a (rw (admitting-root (top l m r a)) s))
 
   -- Where every root is.
   pub root-found :

@@ -4,19 +4,19 @@
 use mathlib.Core.Path.{_≡_, refl}
 use mathlib.Core.List.{List, [], _∷_, _++_, List·Memᴰ, List·Memᴰ·head, List·Memᴰ·tail}
 use mathlib.Core.Option.{Option, none, some}
-use Prim.Native.Nat.{ℕ, zero, suc, _+_, _≤_}
+use Prim.Native.Nat.{ℕ, zero, suc, _+_, _≤_, _<_}
 use native.Mathlib.Omega.{arith}
 use lib.ListN.{length, length-append}
-use Rattle.grammar.specs.Token.{Token, closing, keywordIn, keywordEnd}
+use Rattle.grammar.specs.Spans.{Span, startOf}
+use Rattle.grammar.specs.Token.{structure, Token, closing, keywordIn, keywordEnd}
 use Rattle.grammar.specs.Outcome.{passed}
 use Rattle.grammar.specs.Operator.{Table}
 use Rattle.grammar.specs.Nesting.{nesting}
-use Rattle.grammar.specs.Span.{Item, single, pair, scope, itemTokens, items}
+use Rattle.grammar.specs.Span.{Item, single, pair, scope, itemTokens, items, allItemTokens}
 use Rattle.grammar.specs.SpanTree.{SpanTree}
 use Rattle.grammar.specs.Search.{treeOfSpan}
-use Rattle.grammar.specs.Blocks.{bodyTable, tableBehind, Span, itemSpans, allItemSpans, spans, firstWithout}
-use Rattle.grammar.specs.Claim.{startOf}
-use Rattle.grammar.proofs.ItemsNested.{allItemTokens, ItemNested, AllNested, items-tokens, items-nested}
+use Rattle.grammar.specs.Blocks.{bodyTable, itemSpans, allItemSpans, spans, firstWithout}
+use Rattle.grammar.proofs.ItemsNested.{ItemNested, AllNested, items-tokens, items-nested}
 
 -- The starts ascend: the first is `low` or more, each further one is higher than the one before it, and all are below `high`.
 abbrev pub Ascending : ℕ → ℕ → List Span → Type 0
@@ -43,11 +43,11 @@ module _ (inner : Table → Option ℕ → ℕ → List Token → List Span) (or
   unfolding itemSpans itemTokens
   item-ordered T i (single t) n = omega arith
   item-ordered T i (pair ts) n =
-      let e = length-append ts (closing ∷ []) in
+      let e = length-append ts (structure closing ∷ []) in
       ascending-wider (inner T (some i) (suc i) ts) (omega arith) (omega arith) (ordered T (some i) ts 0 (n 0))
   item-ordered T i (scope ds ts) n =
-      let e = length-append (ds ++ keywordIn ∷ ts) (keywordEnd ∷ []) in
-      let f = length-append ds (keywordIn ∷ ts) in
+      let e = length-append (ds ++ structure keywordIn ∷ ts) (structure keywordEnd ∷ []) in
+      let f = length-append ds (structure keywordIn ∷ ts) in
       let j = suc (i + length ds) in
       ascending-wider (inner (bodyTable T ds) (some j) (suc j) ts) (omega arith) (omega arith) (ordered (bodyTable T ds) (some j) ts 0 (n .1 0))
 
@@ -58,9 +58,9 @@ module _ (inner : Table → Option ℕ → ℕ → List Token → List Span) (or
   items-ordered T i (x ∷ xs) n =
       let e = length-append (itemTokens x) (allItemTokens xs) in
       let j = i + length (itemTokens x) in
-      let later = allItemSpans inner (tableBehind T x) j xs in
+      let later = allItemSpans inner T j xs in
       ascending-append (suc i) (suc j) (suc (i + length (itemTokens x ++ allItemTokens xs))) (itemSpans inner T i x) later (item-ordered T i x (n .0))
-      (ascending-wider later (omega arith) (omega arith) (items-ordered (tableBehind T x) j xs (n .1)))
+      (ascending-wider later (omega arith) (omega arith) (items-ordered T j xs (n .1)))
 
 -- The spans of a span's nested tokens are in order: first itself, then those inside its items.
 pub spans-ordered : (k : ℕ) → Ordered (spans k)
@@ -69,20 +69,28 @@ spans-ordered zero T o ts i n = omega arith
 spans-ordered (suc k) T o ts i n =
     (omega arith, rw (items-tokens ts i n) at (items-ordered (spans k) (spans-ordered k) T (startOf o) (items ts) (items-nested ts i n)))
 
--- Of a whole text: the text itself, which has no opener, then the others by their openers, each the number of one of its tokens.
-pub spans-ascend : (k : ℕ) (T : Table) (ts : List Token) → nesting [] 0 ts ≡ passed tt
-    → (s : Span) × (ss : List Span) × (spans (suc k) T none 0 ts ≡ s ∷ ss) × (s .opener ≡ none) × Ascending 1 (suc (length ts)) ss
-unfolding spans
-spans-ascend k T ts n =
-    let ss = allItemSpans (spans k) T 0 (items ts) in
-    (_, ss, refl, refl, ascending-wider ss (omega arith) (omega arith) (spans-ordered (suc k) T none ts 0 n .1))
-
 -- No span of an ascending list starts before its lower bound.
 ascending-member : (low high : ℕ) {s : Span} {ss : List Span} → List·Memᴰ s ss → Ascending low high ss → low ≤ startOf (s .opener)
 ascending-member low high (List·Memᴰ·head e) a = rw e (a .0)
 ascending-member low high (List·Memᴰ·tail {x = x} m) a =
     let h = ascending-member (suc (startOf (x .opener))) high m (a .1) in
     omega arith
+
+-- .. or behind its upper bound.
+ascending-bound : (low high : ℕ) (ss : List Span) → Ascending low high ss → low ≤ high
+ascending-bound low high [] a = a
+ascending-bound low high (s ∷ ss) a = let h = ascending-bound (suc (startOf (s .opener))) high ss (a .1) in omega (arith, a .0)
+
+ascending-below : (low high : ℕ) {s : Span} {ss : List Span} → List·Memᴰ s ss → Ascending low high ss → startOf (s .opener) < high
+ascending-below low high (List·Memᴰ·head {x = x} {xs = xs} e) a =
+    let h = ascending-bound (suc (startOf (x .opener))) high xs (a .1) in
+    rw e (omega arith)
+ascending-below low high (List·Memᴰ·tail {x = x} m) a = ascending-below (suc (startOf (x .opener))) high m (a .1)
+
+-- The opener of a span of a text is one of its tokens.
+pub opener-within : (k : ℕ) (T : Table) (ts : List Token) → nesting [] 0 ts ≡ passed tt → (s : Span) → List·Memᴰ s (spans k T none 0 ts)
+    → startOf (s .opener) ≤ length ts
+opener-within k T ts n s m = omega (arith, ascending-below 0 (suc (0 + length ts)) m (spans-ordered k T none ts 0 n))
 
 -- The first span without a tree, by the tree of the first span.
 first-without-here : (x : Span) (ss : List Span) (o : Option ℕ) → treeOfSpan (x .table) (x .contents) ≡ none → firstWithout (x ∷ ss) ≡ some o → o ≡ x .opener

@@ -10,7 +10,7 @@ use native.Mathlib.Omega.{arith}
 use lib.Dec.{ltb, eqb}
 use borrow.Author.Tests.{ltb-true, eqb-true, eq-eqb, not-true}
 use Rattle.grammar.specs.Bytes.{Bytes, isEmpty}
-use Rattle.grammar.specs.Token.{symbol, number, quoted, opening, closing, semicolon, keywordLet, keywordIn, keywordEnd}
+use Rattle.grammar.specs.Token.{symbol, number, quoted}
 use Rattle.grammar.specs.Operator.{
   Fixity,
   Prefix,
@@ -44,9 +44,11 @@ use Rattle.grammar.specs.SpanTree.{
   admitsEqual,
   admits,
   admitsBoth,
+  roleOfFixity,
+  roleOver,
   Admitted,
   isOperand,
-  isOperandToken,
+  isOperandAtom,
 }
 use Rattle.grammar.specs.Search.{firstRole, precedence, symbolAt, operatorAt, operatorOf, precedenceAt, widest}
 use Rattle.grammar.proofs.Logic.{and-left, and-right, or-cases, clash}
@@ -68,25 +70,39 @@ unfolding fixity
 root-fixity l r = ap₂ fixityBy (present-yield l) (present-yield r)
 
 -- What an admitted operator over two parts says: it has a role there, and the role admits both.
-pub record Placed (T : Table) (l : SpanTree) (m : Bytes) (r : SpanTree) : Type 0 where
+pub record AdmittingRole (T : Table) (l : SpanTree) (m : Bytes) (r : SpanTree) : Type 0 where
   pub own : Role
-  pub known : role T m (fixity l r) ≡ some own
+  pub form : Fixity
+  pub formed : fixity l r ≡ some form
+  pub known : role T m form ≡ some own
   pub leftFits : admits onLeft own (root T l) ≡ true
   pub rightFits : admits onRight own (root T r) ≡ true
 
-pub placed : (T : Table) (l : SpanTree) (m : Bytes) (r : SpanTree) → Admitted T (apply l m r) → Placed T l m r
-unfolding admitsBoth
-placed T l m r a = go (role T m (fixity l r)) refl (a .3)
+pub admitting-role : (T : Table) (l : SpanTree) (m : Bytes) (r : SpanTree) → Admitted T (apply l m r) → AdmittingRole T l m r
+unfolding admitsBoth roleOver roleOfFixity
+admitting-role T l m r a = go (fixity l r) refl (a .2)
   where
-    go : (o : Option Role) → role T m (fixity l r) ≡ o → admitsBoth o (root T l) (root T r) ≡ true → Placed T l m r
-    go none e h = absurd (true≢false (sym h))
-    go (some q) e h =
+    in-role :
+        (f : Fixity) → fixity l r ≡ some f → (o : Option Role) → role T m f ≡ o → admitsBoth o (root T l) (root T r) ≡ true → AdmittingRole T l m r
+    in-role f g none e h = absurd (true≢false (sym h))
+    in-role f g (some q) e h =
         record {
           own = q;
+          form = f;
+          formed = g;
           known = e;
           leftFits = and-left (admits onLeft q (root T l)) (admits onRight q (root T r)) h;
           rightFits = and-right (admits onLeft q (root T l)) (admits onRight q (root T r)) h;
         }
+
+    go : (f : Option Fixity) → fixity l r ≡ f → admitsBoth (roleOfFixity T m f) (root T l) (root T r) ≡ true → AdmittingRole T l m r
+    go none g h = absurd (true≢false (sym h))
+    go (some f) g h = in-role f g (role T m f) refl h
+
+-- The role of its root.
+pub admitting-root : {T : Table} {l : SpanTree} {m : Bytes} {r : SpanTree} (c : AdmittingRole T l m r) → roleOver T l m r ≡ some (c .own)
+unfolding roleOver roleOfFixity
+admitting-root c = rw (c .formed, roleOfFixity) (c .known)
 
 -- An admitted operand has a lower precedence than its operator, or the same where that is admitted.
 abbrev pub Fits : Position → Role → Option Role → Type 0
@@ -182,18 +198,12 @@ unfolding symbolAt
 symbol-is (single (symbol v)) w e = cc
 symbol-is (single (number d)) w e = cc
 symbol-is (single (quoted c)) w e = cc
-symbol-is (single opening) w e = cc
-symbol-is (single closing) w e = cc
-symbol-is (single semicolon) w e = cc
-symbol-is (single keywordLet) w e = cc
-symbol-is (single keywordIn) w e = cc
-symbol-is (single keywordEnd) w e = cc
 symbol-is (pair ts) w e = cc
 symbol-is (scope ds ts) w e = cc
 
 -- An operand is no operator.
 pub operand-no-operator : (T : Table) (i : Item) → isOperand T i ≡ true → operatorAt T i ≡ none
-unfolding operatorAt isOperand isOperandToken inForce
+unfolding operatorAt isOperand isOperandAtom inForce
 operand-no-operator T i e = go (symbolAt i) refl
   where
     go : (o : Option Bytes) → symbolAt i ≡ o → operatorAt T i ≡ none
@@ -207,13 +217,13 @@ pub root-widest : (T : Table) → Conditions T → (s : SpanTree) → Admitted T
 unfolding root rootPrecedence yield widest precedenceAt
 root-widest T h missing a = refl
 root-widest T h (operand i) a = rw (operand-no-operator T i a, precedenceAt)
-root-widest T h (apply l m r) a = go (placed T l m r a) (root-widest T h l (a .0)) (root-widest T h r (a .1))
+root-widest T h (apply l m r) a = go (admitting-role T l m r a) (root-widest T h l (a .0)) (root-widest T h r (a .1))
   where
     go :
-        Placed T l m r → rootPrecedence (root T l) ≡ widest T (yield l) → rootPrecedence (root T r) ≡ widest T (yield r)
-        → rootPrecedence (role T m (fixity l r)) ≡ widest T (yield l ++ single (symbol m) ∷ yield r)
+        AdmittingRole T l m r → rootPrecedence (root T l) ≡ widest T (yield l) → rootPrecedence (root T r) ≡ widest T (yield r)
+        → rootPrecedence (roleOver T l m r) ≡ widest T (yield l ++ single (symbol m) ∷ yield r)
     go c p q =
-        let here = precedence-at T m (fixity l r) (c .own) (c .known) (h m) in
+        let here = precedence-at T m (c .form) (c .own) (c .known) (h m) in
         let before = admits-le onLeft (c .own) (root T l) (c .leftFits) in
         let after = admits-le onRight (c .own) (root T r) (c .rightFits) in
-        rw (c .known, widest-cut T (yield l) (single (symbol m)) (yield r), here) (omega arith)
+        rw (admitting-root c, widest-cut T (yield l) (single (symbol m)) (yield r), here) (omega arith)

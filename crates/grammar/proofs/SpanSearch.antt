@@ -1,7 +1,7 @@
 -- The search finds exactly the admitted tree of a span. What it finds is admitted, since it cuts the items at an operator and tests the
 -- place; and it finds each admitted tree, since the root is where it looks. So a span has at most one tree.
 use mathlib.Core.Path.{_≡_, refl, ap, ap₂, _∙_}
-use mathlib.Core.Bool.{Bool, true, false, _&&_, _||_}
+use mathlib.Core.Bool.{Bool, true, false}
 use mathlib.Core.List.{List, [], _∷_, _++_}
 use mathlib.Core.Option.{Option, none, some}
 use Prim.Native.Nat.{ℕ, zero, suc, _<_}
@@ -18,13 +18,12 @@ use Rattle.grammar.specs.SpanTree.{
   operand,
   apply,
   yield,
-  present,
-  fixity,
   root,
   admitsBoth,
   isOperand,
   Admitted,
   IsSpanTree,
+  roleOver,
 }
 use Rattle.grammar.specs.Search.{
   precedence,
@@ -33,7 +32,7 @@ use Rattle.grammar.specs.Search.{
   operatorOf,
   widest,
   Split,
-  behind,
+  shifted,
   firstOf,
   lastHere,
   lastOf,
@@ -45,7 +44,7 @@ use Rattle.grammar.specs.Search.{
   partTree,
   treeOfSpan,
 }
-use Rattle.grammar.proofs.Logic.{and-left, and-right, and-intro, clash}
+use Rattle.grammar.proofs.Logic.{clash, impossible}
 use Rattle.grammar.proofs.SpanRoot.{present-yield, symbol-is}
 use Rattle.grammar.proofs.SpanFound.{operand-first, root-found}
 
@@ -75,18 +74,18 @@ abbrev Splits : List Item → Option Split → Type 0
 Splits is none = Unit {0}
 Splits is (some c) = is ≡ c .before ++ single (symbol (c .operator)) ∷ c .after
 
-behind-splits : (i : Item) (is : List Item) (o : Option Split) → Splits is o → Splits (i ∷ is) (behind i o)
-unfolding behind
-behind-splits i is none h = tt
-behind-splits i is (some c) h = ap (λ z. i ∷ z) h
+shifted-splits : (i : Item) (is : List Item) (o : Option Split) → Splits is o → Splits (i ∷ is) (shifted i o)
+unfolding shifted
+shifted-splits i is none h = tt
+shifted-splits i is (some c) h = ap (λ z. i ∷ z) h
 
 first-splits : (T : Table) (p : ℕ) (is : List Item) → Splits is (firstOf T p is)
 unfolding firstOf
 first-splits T p [] = tt
-first-splits T p (i ∷ is) = go (operatorOf T p i) refl (behind-splits i is (firstOf T p is) (first-splits T p is))
+first-splits T p (i ∷ is) = go (operatorOf T p i) refl (shifted-splits i is (firstOf T p is) (first-splits T p is))
   where
     go :
-        (o : Option Bytes) → operatorOf T p i ≡ o → Splits (i ∷ is) (behind i (firstOf T p is))
+        (o : Option Bytes) → operatorOf T p i ≡ o → Splits (i ∷ is) (shifted i (firstOf T p is))
         → Splits (i ∷ is) (firstOf T p (i ∷ is))
     go none e h = rw (e, firstOf) h
     go (some m) e h = rw (e, firstOf) (ap (λ z. z ∷ is) (operator-is T p i m e))
@@ -102,7 +101,7 @@ last-splits T p (i ∷ is) = go (lastOf T p is) (last-splits T p is)
 
     go : (o : Option Split) → Splits is o → Splits (i ∷ is) (lastHere T p i is o)
     go none h = here (operatorOf T p i) refl
-    go (some c) h = behind-splits i is (some c) h
+    go (some c) h = shifted-splits i is (some c) h
 
 root-splits : (T : Table) (is : List Item) → Splits is (rootOf T is)
 unfolding rootOf rootIn
@@ -139,19 +138,16 @@ joined-sound :
 unfolding joined yield
 joined-sound T xs m ys none b f g = tt
 joined-sound T xs m ys (some l) none f g = tt
-joined-sound T xs m ys (some l) (some r) f g = go (there && fits) refl
+joined-sound T xs m ys (some l) (some r) f g = go fits refl
   where
-    there : Bool
-    there = present l || present r
-
     fits : Bool
-    fits = admitsBoth (role T m (fixity l r)) (root T l) (root T r)
+    fits = admitsBoth (roleOver T l m r) (root T l) (root T r)
 
-    go : (t : Bool) → there && fits ≡ t → Sound T (xs ++ single (symbol m) ∷ ys) (joined T (some l) m (some r))
+    go : (t : Bool) → fits ≡ t → Sound T (xs ++ single (symbol m) ∷ ys) (joined T (some l) m (some r))
     go true e =
         rw (e, joined) (
           ap₂ (λ x y. x ++ single (symbol m) ∷ y) (f .0) (g .0),
-          (f .1, g .1, and-left there fits e, and-right there fits e),
+          (f .1, g .1, e),
         )
     go false e = rw (e, joined) tt
 
@@ -200,7 +196,7 @@ partTree-complete T h (apply l m r) a (suc k) n =
       part-step k T (yield (apply l m r)) (record { before = yield l; operator = m; after = yield r }) (root-found T h l m r a),
       partTree-complete T h l (a .0) k (shorter .0),
       partTree-complete T h r (a .1) k (shorter .1),
-      and-intro (a .2) (a .3),
+      a .2,
       joined,
     )
   where
@@ -210,7 +206,7 @@ partTree-complete T h (apply l m r) a (suc k) n =
 -- The tree of a span is what the search finds.
 pub treeOfSpan-sound : (T : Table) (is : List Item) (s : SpanTree) → treeOfSpan T is ≡ some s → IsSpanTree T is s
 unfolding treeOfSpan isEmpty
-treeOfSpan-sound T [] s e = let z : _≡_ {A = ℕ} 0 1 = cc in absurd (omega arith)
+treeOfSpan-sound T [] s e = impossible cc
 treeOfSpan-sound T (i ∷ is) s e =
     let p : (yield s ≡ i ∷ is) × Admitted T s = partTree-sound (suc (length (i ∷ is))) T (i ∷ is) s e in
     record { yields = p .0; admitted = p .1; there = present-yield s ∙ rw (p .0) }
@@ -221,7 +217,3 @@ unfolding treeOfSpan isEmpty
 treeOfSpan-complete T h [] s t = absurd (clash (t .there) (present-yield s ∙ rw (t .yields)))
 treeOfSpan-complete T h (i ∷ is) s t =
     rw (t .yields) at (partTree-complete T h s (t .admitted) (suc (length (i ∷ is))) (rw (t .yields) (omega arith)))
-
--- A span has at most one tree.
-pub span-unique : (T : Table) → Conditions T → (is : List Item) (s u : SpanTree) → IsSpanTree T is s → IsSpanTree T is u → s ≡ u
-span-unique T h is s u p q = cc (treeOfSpan-complete T h is s p, treeOfSpan-complete T h is u q)

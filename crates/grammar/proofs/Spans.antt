@@ -5,6 +5,7 @@ use mathlib.Core.Option.{Option, none, some}
 use Prim.Native.Nat.{ℕ, zero, suc, _+_, _<_}
 use native.Mathlib.Omega.{arith}
 use lib.ListN.{length}
+use Rattle.grammar.specs.Spans.{Span}
 use Rattle.grammar.specs.Token.{Token, symbol}
 use Rattle.grammar.specs.Outcome.{passed}
 use Rattle.grammar.specs.Operator.{Table, Conditions}
@@ -13,23 +14,30 @@ use Rattle.grammar.specs.Span.{Item, single, pair, scope, items, itemTok
 use Rattle.grammar.specs.SpanTree.{SpanTree, missing, operand, apply, yield}
 use Rattle.grammar.specs.Tree.{Tree, nothing, leaf, bracket, block, node}
 use Rattle.grammar.specs.Search.{treeOfSpan}
-use Rattle.grammar.specs.Blocks.{bodyTable, checkBlocks, Span, itemSpans, allItemSpans, spans, firstWithout, underBracket, underBlock, underOperator, hangItem, hang, hangFound, treeIn}
-use Rattle.grammar.proofs.Lists.{All, all-left, all-right, all-append}
+use Rattle.grammar.specs.Blocks.{
+  bodyTable,
+  checkBlocks,
+  itemSpans,
+  allItemSpans,
+  spans,
+  firstWithout,
+  underBracket,
+  underBlock,
+  underOperator,
+  hangItem,
+  hang,
+  hangFound,
+  treeIn,
+}
+use Rattle.grammar.specs.Bytes.{All}
+use Rattle.grammar.proofs.Lists.{all-left, all-right, all-append}
 use Rattle.grammar.proofs.SpanSearch.{treeOfSpan-sound}
 use Rattle.grammar.proofs.Declarations.{enter-sound}
 use Rattle.grammar.proofs.ConditionsTest.{conditions-sound}
 use Rattle.grammar.proofs.ItemLists.{CheckedBy}
-use Rattle.grammar.proofs.TextSound.{
-  Nested,
-  Inside,
-  inside-items,
-  known-items,
-  pair-within,
-  scope-within,
-  underBracket-some,
-  underBlock-some,
-  underOperator-some,
-}
+use Rattle.grammar.proofs.Hung.{underBracket-some, underBlock-some, underOperator-some}
+use Rattle.grammar.proofs.TextSound.{Nested, Inside, inside-items, known-items, pair-within, scope-within}
+use Rattle.grammar.proofs.Logic.{impossible}
 
 -- A span has a tree.
 abbrev pub HasTree : Span → Type 0
@@ -39,7 +47,7 @@ without-none :
     (s : Span) (ss : List Span) → (firstWithout ss ≡ none → All HasTree ss)
     → (o : Option SpanTree) → treeOfSpan (s .table) (s .contents) ≡ o → firstWithout (s ∷ ss) ≡ none → All HasTree (s ∷ ss)
 unfolding firstWithout
-without-none s ss h none q e = let z : _≡_ {A = ℕ} 0 1 = (let f = rw (q, firstWithout) at e in cc) in absurd (omega arith)
+without-none s ss h none q e = let f = rw (q, firstWithout) at e in impossible cc
 without-none s ss h (some t) q e = ((t, q), h (rw (q, firstWithout) at e))
 
 -- No span is without a tree exactly where every span has one.
@@ -110,7 +118,7 @@ module _ (inner : Table → List Token → Option Tree) (below : Table → Optio
       → (f : Option SpanTree) → treeOfSpan T (items ts) ≡ f → hangFound inner T f ≡ some t
       → All HasTree (record { opener = o; table = T; contents = items ts } ∷ allItemSpans below T i (items ts))
   unfolding hangFound
-  spans-of-found T o i ts t none q e = let z : _≡_ {A = ℕ} 0 1 = cc in absurd (omega arith)
+  spans-of-found T o i ts t none q e = impossible cc
   spans-of-found T o i ts t (some s) q e =
       let y = treeOfSpan-sound T (items ts) s q .yields in
       ((s, q), allItemSpans-have T i (items ts) (rw y at (hang-inside inner T s t e)))
@@ -119,7 +127,7 @@ pub spans-have :
     (j k : ℕ) (T : Table) (o : Option ℕ) (i : ℕ) (ts : List Token) (t : Tree) → treeIn k T ts ≡ some t → All HasTree (spans j T o i ts)
 unfolding spans treeIn
 spans-have zero k T o i ts t e = tt
-spans-have (suc j) zero T o i ts t e = let z : _≡_ {A = ℕ} 0 1 = cc in absurd (omega arith)
+spans-have (suc j) zero T o i ts t e = impossible cc
 spans-have (suc j) (suc k) T o i ts t e =
     spans-of-found (treeIn k) (spans j) (spans-have j k) T o i ts t (treeOfSpan T (items ts)) refl e
 
@@ -188,7 +196,7 @@ without-some s ss o h (some t) q e =
 
 pub firstWithout-some : (ss : List Span) (o : Option ℕ) → firstWithout ss ≡ some o → Treeless ss o
 unfolding firstWithout
-firstWithout-some [] o e = let z : _≡_ {A = ℕ} 0 1 = cc in absurd (omega arith)
+firstWithout-some [] o e = impossible cc
 firstWithout-some (s ∷ ss) o e = without-some s ss o (firstWithout-some ss o) (treeOfSpan (s .table) (s .contents)) refl e
 
 -- The operators of every span of a text past checks 6 to 10 meet the four conditions.

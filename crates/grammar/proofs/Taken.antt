@@ -10,6 +10,8 @@ use lib.ListN.{length, take, drop, getD, length-append, take-append-drop}
 use borrow.Author.Tests.{eqb-true, eq-eqb, leb-true, le-leb}
 use Rattle.grammar.specs.Bytes.{Bytes, bytes, same, member, every}
 use Rattle.grammar.specs.Token.{
+  atom,
+  structure,
   class,
   letter,
   digit,
@@ -18,7 +20,7 @@ use Rattle.grammar.specs.Token.{
   opens,
   closes,
   separates,
-  within,
+  between,
   isBlank,
   isLetter,
   signs as signBytes,
@@ -44,18 +46,7 @@ use Rattle.grammar.specs.Token.{
   longestNumber,
 }
 use Rattle.grammar.specs.Spelling.{continues, Stops}
-use Rattle.grammar.specs.Scan.{
-  run,
-  Front,
-  nothing,
-  wrong,
-  taken,
-  keywordOrSymbol,
-  atMost,
-  quotedName,
-  frontOf,
-  front,
-}
+use Rattle.grammar.specs.Scan.{run, Front, nothing, wrong, taken, keywordOrSymbol, atMost, quotedName, frontOf, front}
 use Rattle.grammar.proofs.Logic.{and-left, and-right, and-intro, or-cases, clash, same-eq}
 use Rattle.grammar.proofs.Runs.{
   Ran,
@@ -91,26 +82,26 @@ Told s (wrong k) = Unit {0}
 Told s (taken t n) = Begins s t n
 
 -- What holds in both cases of a test holds of the choice between them.
-branch : {A : Type 0} (P : A → Type 0) (b : Bool) (x y : A) → (b ≡ true → P x) → P y → P (elim b [ true ↦ x | false ↦ y ])
+pub branch : {A : Type 0} (P : A → Type 0) (b : Bool) (x y : A) → (b ≡ true → P x) → P y → P (elim b [ true ↦ x | false ↦ y ])
 branch P true x y h h′ = h refl
 branch P false x y h h′ = h′
 
 -- The bytes make a token of the kind that is spelled so, and that goes on as its kind does.
-record Makes (k : Kind) (w : Bytes) : Type 0 where
-  valid : isToken (k .make w) ≡ true
-  spelled : spelling (k .make w) ≡ w
-  goesOn : continues (k .make w) ≡ k .test
+pub record Makes (k : Kind) (w : Bytes) : Type 0 where
+  pub valid : isToken (k .make w) ≡ true
+  pub spelled : spelling (k .make w) ≡ w
+  pub goesOn : continues (k .make w) ≡ k .test
 
 makes
     : (k : Kind) (w : Bytes) (t : Token) → k .make w ≡ t → isToken t ≡ true → spelling t ≡ w → continues t ≡ k .test → Makes k w
 makes k w t e h h′ h″ = record { valid = ap isToken e ∙ h; spelled = ap spelling e ∙ h′; goesOn = ap continues e ∙ h″ }
 
-bare-name : (w : Bytes) → isWord w || isSign w ≡ true → isKeyword w ≡ false → length w ≤ longestName → isToken (symbol w) ≡ true
+bare-name : (w : Bytes) → isWord w || isSign w ≡ true → isKeyword w ≡ false → length w ≤ longestName → isToken (atom (symbol w)) ≡ true
 unfolding isToken isSymbol
 bare-name w e k h = and-intro (and-intro e (ap not k)) (le-leb (length w) longestName h)
 
 -- A word is a keyword or a bare name.
-word-makes : (w : Bytes) → isRun words w ≡ true → length w ≤ longestName → Makes words w
+pub word-makes : (w : Bytes) → isRun words w ≡ true → length w ≤ longestName → Makes words w
 unfolding isToken spelling continues keywordOrSymbol isKeyword
 word-makes w e h = go (same w (bytes "let")) (same w (bytes "in")) (same w (bytes "end")) refl refl refl
   where
@@ -118,14 +109,14 @@ word-makes w e h = go (same w (bytes "let")) (same w (bytes "in")) (same w (byte
     i = word-run w ∙ e
 
     go : (x y z : Bool) → same w (bytes "let") ≡ x → same w (bytes "in") ≡ y → same w (bytes "end") ≡ z → Makes words w
-    go true y z p q r = makes words w keywordLet (rw (p, keywordOrSymbol)) refl (sym (same-eq w (bytes "let") p)) refl
-    go false true z p q r = makes words w keywordIn (rw (p, q, keywordOrSymbol)) refl (sym (same-eq w (bytes "in") q)) refl
-    go false false true p q r = makes words w keywordEnd (rw (p, q, r, keywordOrSymbol)) refl (sym (same-eq w (bytes "end") r)) refl
+    go true y z p q r = makes words w (structure keywordLet) (rw (p, keywordOrSymbol)) refl (sym (same-eq w (bytes "let") p)) refl
+    go false true z p q r = makes words w (structure keywordIn) (rw (p, q, keywordOrSymbol)) refl (sym (same-eq w (bytes "in") q)) refl
+    go false false true p q r = makes words w (structure keywordEnd) (rw (p, q, r, keywordOrSymbol)) refl (sym (same-eq w (bytes "end") r)) refl
     go false false false p q r =
         makes
         words
         w
-        (symbol w)
+        (atom (symbol w))
         (rw (p, q, r, keywordOrSymbol))
         (bare-name w (ap (λ x. x || isSign w) i) (rw (p, q, r, isKeyword)) h)
         refl
@@ -144,7 +135,7 @@ keyword-word w e = go (or-cases (same w (bytes "let") || same w (bytes "in")) (s
     go (inr h) = ap isWord (same-eq w (bytes "end") h)
 
 -- A sign is no word, so it is no keyword.
-sign-makes : (w : Bytes) → isRun signs w ≡ true → length w ≤ longestName → Makes signs w
+pub sign-makes : (w : Bytes) → isRun signs w ≡ true → length w ≤ longestName → Makes signs w
 unfolding spelling
 sign-makes w e h = record {
   valid = bare-name w sign-or-word (no-keyword (isKeyword w) refl) h;
@@ -162,7 +153,7 @@ sign-makes w e h = record {
     no-keyword true f = absurd (clash (keyword-word w f) (sign-not-word w i))
     no-keyword false f = f
 
-number-makes : (w : Bytes) → isRun numbers w ≡ true → length w ≤ longestNumber → Makes numbers w
+pub number-makes : (w : Bytes) → isRun numbers w ≡ true → length w ≤ longestNumber → Makes numbers w
 unfolding isToken spelling continues
 number-makes w e h = record { valid = and-intro (number-run w ∙ e) (le-leb (length w) longestNumber h); spelled = refl; goesOn = refl }
 
@@ -195,7 +186,7 @@ longest-told k make b s c =
           stops = subst (λ p. Stops p (drop n s)) (sym (m .goesOn)) (r .stops);
         }
 
-stops-always : (s : Bytes) → Stops (λ b. false) s
+pub stops-always : (s : Bytes) → Stops (λ b. false) s
 stops-always [] = tt
 stops-always (b ∷ s) = refl
 
@@ -216,7 +207,7 @@ quoted-told s = branch (Told (39 ∷ s)) (sized && closes-it) _ _ begins tt
     r : Ran inQuotes s n
     r = ran inQuotes s
 
-    begins : sized && closes-it ≡ true → Begins (39 ∷ s) (quoted (take n s)) (n + 2)
+    begins : sized && closes-it ≡ true → Begins (39 ∷ s) (atom (quoted (take n s))) (n + 2)
     begins e = record {
       rest = drop (suc n) s;
       written =
@@ -228,18 +219,18 @@ quoted-told s = branch (Told (39 ∷ s)) (sized && closes-it) _ _ begins tt
     }
 
 -- Four classes hold one byte each.
-record Solo (b c : ℕ) : Type 0 where
-  a-quote : c ≡ quote → b ≡ 39
-  an-opening : c ≡ opens → b ≡ 40
-  a-closing : c ≡ closes → b ≡ 41
-  a-semicolon : c ≡ separates → b ≡ 59
+pub record Solo (b c : ℕ) : Type 0 where
+  pub a-quote : c ≡ quote → b ≡ 39
+  pub an-opening : c ≡ opens → b ≡ 40
+  pub a-closing : c ≡ closes → b ≡ 41
+  pub a-semicolon : c ≡ separates → b ≡ 59
 
-solo : (b : ℕ) → Solo b (class b)
+pub solo : (b : ℕ) → Solo b (class b)
 unfolding class
 solo b =
     branch (Solo b) (isBlank b) _ _ (λ e. omega arith) (
     branch (Solo b) (isLetter b) _ _ (λ e. omega arith) (
-    branch (Solo b) (within 48 57 b) _ _ (λ e. omega arith) (
+    branch (Solo b) (between 48 57 b) _ _ (λ e. omega arith) (
     branch (Solo b) (eqb b 95) _ _ (λ e. omega arith) (
     branch (Solo b) (member b signBytes) _ _ (λ e. omega arith) (
     branch (Solo b) (eqb b 39) _ _ (λ e. omega (arith, eqb-true b 39 e)) (
@@ -267,9 +258,9 @@ front-told (b ∷ s) =
     branch (Told (b ∷ s)) (eqb (class b) sign) _ _ (λ e. longest-told signs sign-makes b s (is sign e)) (
     branch (Told (b ∷ s)) (eqb (class b) digit) _ _ (λ e. longest-told numbers number-makes b s (is digit e)) (
     branch (Told (b ∷ s)) (eqb (class b) quote) _ _ (λ e. name (solo b .a-quote (is quote e))) (
-    branch (Told (b ∷ s)) (eqb (class b) opens) _ _ (λ e. one-byte opening s (solo b .an-opening (is opens e)) refl refl refl) (
-    branch (Told (b ∷ s)) (eqb (class b) closes) _ _ (λ e. one-byte closing s (solo b .a-closing (is closes e)) refl refl refl) (
-    branch (Told (b ∷ s)) (eqb (class b) separates) _ _ (λ e. one-byte semicolon s (solo b .a-semicolon (is separates e)) refl refl refl) tt))))))
+    branch (Told (b ∷ s)) (eqb (class b) opens) _ _ (λ e. one-byte (structure opening) s (solo b .an-opening (is opens e)) refl refl refl) (
+    branch (Told (b ∷ s)) (eqb (class b) closes) _ _ (λ e. one-byte (structure closing) s (solo b .a-closing (is closes e)) refl refl refl) (
+    branch (Told (b ∷ s)) (eqb (class b) separates) _ _ (λ e. one-byte (structure semicolon) s (solo b .a-semicolon (is separates e)) refl refl refl) tt))))))
   where
     is : (c : ℕ) → eqb (class b) c ≡ true → class b ≡ c
     is c e = eqb-true (class b) c e

@@ -5,22 +5,25 @@ use mathlib.Core.Option.{Option, none, some}
 use Prim.Native.Nat.{ℕ, zero, suc, _+_, _≤_, _<_}
 use native.Mathlib.Omega.{arith}
 use lib.ListN.{length, length-append}
-use Rattle.grammar.specs.Bytes.{Bytes}
-use Rattle.grammar.specs.Token.{Token, symbol, opening, closing, keywordLet, keywordIn, keywordEnd}
+use Rattle.grammar.specs.Bytes.{All, Bytes}
+use Rattle.grammar.specs.Token.{atom, structure, Token, symbol, opening, closing, keywordLet, keywordIn, keywordEnd, Atom}
 use Rattle.grammar.specs.Outcome.{passed}
 use Rattle.grammar.specs.Operator.{Table}
-use Rattle.grammar.specs.Declaration.{Declaration, declareAll, declarations, allTokens, enter}
-use Rattle.grammar.specs.Span.{Item, single, pair, scope, items, itemTokens}
+use Rattle.grammar.specs.Declaration.{declareAll, declarations, allTokens, enter}
+use Rattle.grammar.specs.Span.{Item, single, pair, scope, items, itemTokens, allItemTokens}
 use Rattle.grammar.specs.SpanTree.{SpanTree, missing, operand, apply, yield}
-use Rattle.grammar.specs.Tree.{Tree, nothing, leaf, bracket, block, node, flat, spanTree, InnerOk, IsTree}
+use Rattle.grammar.specs.Tree.{Tree, nothing, leaf, bracket, block, node, flat, spanTree}
 use Rattle.grammar.specs.Search.{treeOfSpan}
-use Rattle.grammar.specs.Blocks.{bodyTable, checkBlocks, underBracket, underBlock, underOperator, hangItem, hang, hangFound, treeIn}
+use Rattle.grammar.specs.Blocks.{bodyTable, checkBlocks, hangItem, hang, hangFound, treeIn}
+use Rattle.grammar.proofs.CheckedTrees.{InnerChecked, IsCheckedTree}
+use Rattle.grammar.proofs.Hung.{underBracket-some, underBlock-some, underOperator-some}
 use Rattle.grammar.proofs.SpanSearch.{treeOfSpan-sound}
-use Rattle.grammar.proofs.ItemsNested.{Passes, ItemNested, allItemTokens, append-tokens, items-tokens, items-nested}
+use Rattle.grammar.proofs.ItemsNested.{Passes, ItemNested, append-tokens, items-tokens, items-nested}
 use Rattle.grammar.proofs.Declarations.{enter-sound}
 use Rattle.grammar.proofs.ConditionsTest.{conditions-sound}
-use Rattle.grammar.proofs.Lists.{All, all-left, all-right, all-both}
+use Rattle.grammar.proofs.Lists.{all-left, all-right, all-both}
 use Rattle.grammar.proofs.ItemLists.{all-within, CheckedBy, checkItems-passed}
+use Rattle.grammar.proofs.Logic.{impossible}
 
 -- Tokens that pass checks 6 and 7, wherever they begin.
 abbrev pub Nested : List Token → Type 0
@@ -31,7 +34,7 @@ abbrev pub Inside : ℕ → Item → Type 0
 Inside j x = ItemNested x × (length (itemTokens x) ≤ j)
 
 -- And what checks 8 to 10 say of it.
-abbrev Known : ℕ → Table → Item → Type 0
+abbrev pub Known : ℕ → Table → Item → Type 0
 Known j T x = Inside j x × CheckedBy (checkBlocks j) T x
 
 pub inside-items : (j : ℕ) (ts : List Token) → Nested ts → length ts ≤ j → All (Inside j) (items ts)
@@ -49,58 +52,39 @@ known-items j T i ts h n e =
 
 pub pair-within : (j : ℕ) (ts : List Token) → length (itemTokens (pair ts)) ≤ j → length ts < j
 unfolding itemTokens
-pair-within j ts n = omega (arith, length-append ts (closing ∷ []))
+pair-within j ts n = omega (arith, length-append ts (structure closing ∷ []))
 
 pub scope-within : (j : ℕ) (ds ts : List Token) → length (itemTokens (scope ds ts)) ≤ j → length ts < j
 unfolding itemTokens
-scope-within j ds ts n = omega (arith, length-append (ds ++ keywordIn ∷ ts) (keywordEnd ∷ []), length-append ds (keywordIn ∷ ts))
-
--- What is known of an answer that came out of a bracket pair, a block or an operator.
-pub underBracket-some : (o : Option Tree) (t : Tree) → underBracket o ≡ some t → (u : Tree) × (o ≡ some u) × (t ≡ bracket u)
-unfolding underBracket
-underBracket-some none t e = let z : _≡_ {A = ℕ} 0 1 = cc in absurd (omega arith)
-underBracket-some (some u) t e = (u, refl, cc)
-
-pub underBlock-some : (ds : List Declaration) (o : Option Tree) (t : Tree) → underBlock ds o ≡ some t → (u : Tree) × (o ≡ some u) × (t ≡ block ds u)
-unfolding underBlock
-underBlock-some ds none t e = let z : _≡_ {A = ℕ} 0 1 = cc in absurd (omega arith)
-underBlock-some ds (some u) t e = (u, refl, cc)
-
-pub underOperator-some :
-    (m : Bytes) (o p : Option Tree) (t : Tree) → underOperator m o p ≡ some t
-    → (l : Tree) × (r : Tree) × (o ≡ some l) × (p ≡ some r) × (t ≡ node l m r)
-unfolding underOperator
-underOperator-some m none p t e = let z : _≡_ {A = ℕ} 0 1 = cc in absurd (omega arith)
-underOperator-some m (some l) none t e = let z : _≡_ {A = ℕ} 0 1 = cc in absurd (omega arith)
-underOperator-some m (some l) (some r) t e = (l, r, refl, refl, cc)
+scope-within j ds ts n = omega (arith, length-append (ds ++ structure keywordIn ∷ ts) (structure keywordEnd ∷ []), length-append ds (structure keywordIn ∷ ts))
 
 -- The tokens of the items around an operator.
 at-operator :
     (xs : List Item) (m : Bytes) (ys : List Item)
-    → allItemTokens (xs ++ single (symbol m) ∷ ys) ≡ allItemTokens xs ++ symbol m ∷ allItemTokens ys
+    → allItemTokens (xs ++ single (symbol m) ∷ ys) ≡ allItemTokens xs ++ atom (symbol m) ∷ allItemTokens ys
 unfolding allItemTokens itemTokens
 at-operator xs m ys = append-tokens xs (single (symbol m) ∷ ys)
 
 -- A tree hung together: its outermost span, its tokens, its inner spans.
 abbrev Hung : Table → SpanTree → Tree → Type 0
-Hung T s t = (spanTree t ≡ s) × (flat t ≡ allItemTokens (yield s)) × InnerOk T t
+Hung T s t = (spanTree t ≡ s) × (flat t ≡ allItemTokens (yield s)) × InnerChecked T t
 
 hung-nothing : (T : Table) → Hung T missing nothing
 unfolding spanTree flat yield allItemTokens
 hung-nothing T = (refl, refl, tt)
 
-hung-single : (T : Table) (t : Token) → Hung T (operand (single t)) (leaf t)
+hung-single : (T : Table) (a : Atom) → Hung T (operand (single a)) (leaf a)
 unfolding spanTree flat yield allItemTokens itemTokens
-hung-single T t = (refl, refl, tt)
+hung-single T a = (refl, refl, tt)
 
-hung-bracket : (T : Table) (ts : List Token) (u : Tree) → IsTree T ts u → Hung T (operand (pair ts)) (bracket u)
+hung-bracket : (T : Table) (ts : List Token) (u : Tree) → IsCheckedTree T ts u → Hung T (operand (pair ts)) (bracket u)
 unfolding spanTree flat yield allItemTokens itemTokens
 hung-bracket T ts u h =
     let e = h .tokens in
-    (rw e, rw e (sym (append-nil (opening ∷ ts ++ closing ∷ []))), (h .outer, h .inner))
+    (rw e, rw e (sym (append-nil (structure opening ∷ ts ++ structure closing ∷ []))), (h .outer, h .inner))
 
 hung-block :
-    (T : Table) (i : ℕ) (ds ts : List Token) (U : Table) (u : Tree) → enter (length ds) T i ds ≡ passed U → IsTree U ts u
+    (T : Table) (i : ℕ) (ds ts : List Token) (U : Table) (u : Tree) → enter (length ds) T i ds ≡ passed U → IsCheckedTree U ts u
     → Hung T (operand (scope ds ts)) (block (declarations ds) u)
 unfolding spanTree flat yield allItemTokens itemTokens
 hung-block T i ds ts U u n h =
@@ -109,7 +93,7 @@ hung-block T i ds ts U u n h =
     let d : allTokens (declarations ds) ≡ ds = g .0 in
     let w : U ≡ declareAll T (declarations ds) = g .2 in (
       rw (e, d),
-      rw (e, d) (sym (append-nil (keywordLet ∷ ds ++ keywordIn ∷ ts ++ keywordEnd ∷ []))),
+      rw (e, d) (sym (append-nil (structure keywordLet ∷ ds ++ structure keywordIn ∷ ts ++ structure keywordEnd ∷ []))),
       (g .1, rw w at (conditions-sound U (g .3)), rw w at (h .outer), rw w at (h .inner)),
     )
 
@@ -117,12 +101,12 @@ hung-node : (T : Table) (l r : SpanTree) (m : Bytes) (t u : Tree) → Hung T l t
 unfolding spanTree flat yield
 hung-node T l r m t u h g = (
   ap₂ (λ x y. apply x m y) (h .0) (g .0),
-  ap₂ (λ x y. x ++ symbol m ∷ y) (h .1) (g .1) ∙ sym (at-operator (yield l) m (yield r)),
+  ap₂ (λ x y. x ++ atom (symbol m) ∷ y) (h .1) (g .1) ∙ sym (at-operator (yield l) m (yield r)),
   (h .2, g .2),
 )
 
 module _ (inner : Table → List Token → Option Tree) (j : ℕ)
-    (sound : (T : Table) (i : ℕ) (ts : List Token) (t : Tree) → Nested ts → length ts < j → checkBlocks j T i ts ≡ passed tt → inner T ts ≡ some t → IsTree T ts t) where
+    (sound : (T : Table) (i : ℕ) (ts : List Token) (t : Tree) → Nested ts → length ts < j → checkBlocks j T i ts ≡ passed tt → inner T ts ≡ some t → IsCheckedTree T ts t) where
   hangItem-sound : (T : Table) (x : Item) (t : Tree) → Known j T x → hangItem inner T x ≡ some t → Hung T (operand x) t
   unfolding hangItem bodyTable
   hangItem-sound T (single t₀) t k e = let h : t ≡ leaf t₀ = cc in rw h (hung-single T t₀)
@@ -151,9 +135,9 @@ module _ (inner : Table → List Token → Option Tree) (j : ℕ)
   found-sound :
       (T : Table) (i : ℕ) (ts : List Token) (t : Tree)
       → Nested ts → length ts < suc j → checkBlocks (suc j) T i ts ≡ passed tt
-      → (o : Option SpanTree) → treeOfSpan T (items ts) ≡ o → hangFound inner T o ≡ some t → IsTree T ts t
+      → (o : Option SpanTree) → treeOfSpan T (items ts) ≡ o → hangFound inner T o ≡ some t → IsCheckedTree T ts t
   unfolding hangFound
-  found-sound T i ts t n b c none q e = let z : _≡_ {A = ℕ} 0 1 = cc in absurd (omega arith)
+  found-sound T i ts t n b c none q e = impossible cc
   found-sound T i ts t n b c (some s) q e =
       let g = treeOfSpan-sound T (items ts) s q in
       let y = g .yields in
@@ -167,8 +151,8 @@ module _ (inner : Table → List Token → Option Tree) (j : ℕ)
 -- What the search finds is a tree of the tokens: by induction on its fuel `k`; `j` is the fuel of the checks.
 pub treeIn-sound :
     (k j : ℕ) (T : Table) (i : ℕ) (ts : List Token) (t : Tree)
-    → Nested ts → length ts < j → checkBlocks j T i ts ≡ passed tt → treeIn k T ts ≡ some t → IsTree T ts t
+    → Nested ts → length ts < j → checkBlocks j T i ts ≡ passed tt → treeIn k T ts ≡ some t → IsCheckedTree T ts t
 unfolding treeIn
-treeIn-sound zero j T i ts t n b c e = let z : _≡_ {A = ℕ} 0 1 = cc in absurd (omega arith)
+treeIn-sound zero j T i ts t n b c e = impossible cc
 treeIn-sound (suc k) zero T i ts t n b c e = absurd (omega arith)
 treeIn-sound (suc k) (suc j) T i ts t n b c e = found-sound (treeIn k) j (treeIn-sound k j) T i ts t n b c (treeOfSpan T (items ts)) refl e

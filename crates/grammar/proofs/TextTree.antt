@@ -7,53 +7,44 @@ use Prim.Native.Nat.{ℕ, zero, suc, _+_, _≤_, _<_}
 use native.Mathlib.Omega.{arith}
 use lib.ListN.{length, length-append}
 use Rattle.grammar.specs.Bytes.{Bytes}
-use Rattle.grammar.specs.Token.{Token, symbol, closing, keywordIn, keywordEnd}
+use Rattle.grammar.specs.Token.{atom, structure, Token, symbol, closing, keywordIn, keywordEnd}
 use Rattle.grammar.specs.Operator.{Table, Conditions}
 use Rattle.grammar.specs.Declaration.{Declaration, declareAll, declarations, allTokens}
 use Rattle.grammar.specs.Span.{items}
-use Rattle.grammar.specs.Tree.{Tree, nothing, leaf, bracket, block, node, flat, spanTree, SpanOk, InnerOk, IsTree}
+use Rattle.grammar.specs.Tree.{Tree, nothing, leaf, bracket, block, node, flat, spanTree, SpanOk}
 use Rattle.grammar.specs.Search.{treeOfSpan}
-use Rattle.grammar.specs.Blocks.{
-  bodyTable,
-  underBracket,
-  underBlock,
-  underOperator,
-  hangItem,
-  hang,
-  hangFound,
-  treeIn,
-  treeOf,
-}
+use Rattle.grammar.specs.Blocks.{bodyTable, underBracket, underBlock, underOperator, hangItem, hang, hangFound, treeIn, treeOf}
+use Rattle.grammar.proofs.CheckedTrees.{InnerChecked, IsCheckedTree}
 use Rattle.grammar.proofs.SpanSearch.{treeOfSpan-complete}
-use Rattle.grammar.proofs.Items.{plain-tree, items-flat}
+use Rattle.grammar.proofs.Items.{items-flat}
 use Rattle.grammar.proofs.Declarations.{declarations-of}
 
 -- The inside of a bracket pair, and the body of a block, is shorter than the whole.
 pub bracket-shorter : (t : Tree) (k : ℕ) → length (flat (bracket t)) ≤ k → length (flat t) < k
 unfolding flat
-bracket-shorter t k h = omega (arith, length-append (flat t) (closing ∷ []))
+bracket-shorter t k h = omega (arith, length-append (flat t) (structure closing ∷ []))
 
 pub block-shorter : (ds : List Declaration) (t : Tree) (k : ℕ) → length (flat (block ds t)) ≤ k → length (flat t) < k
 unfolding flat
 block-shorter ds t k h =
     omega (
       arith,
-      length-append (allTokens ds ++ keywordIn ∷ flat t) (keywordEnd ∷ []),
-      length-append (allTokens ds) (keywordIn ∷ flat t),
+      length-append (allTokens ds ++ structure keywordIn ∷ flat t) (structure keywordEnd ∷ []),
+      length-append (allTokens ds) (structure keywordIn ∷ flat t),
     )
 
 pub left-shorter : (l : Tree) (m : Bytes) (r : Tree) (k : ℕ) → length (flat (node l m r)) ≤ k → length (flat l) ≤ k
 unfolding flat
-left-shorter l m r k h = omega (arith, length-append (flat l) (symbol m ∷ flat r))
+left-shorter l m r k h = omega (arith, length-append (flat l) (atom (symbol m) ∷ flat r))
 
 pub right-shorter : (l : Tree) (m : Bytes) (r : Tree) (k : ℕ) → length (flat (node l m r)) ≤ k → length (flat r) ≤ k
 unfolding flat
-right-shorter l m r k h = omega (arith, length-append (flat l) (symbol m ∷ flat r))
+right-shorter l m r k h = omega (arith, length-append (flat l) (atom (symbol m) ∷ flat r))
 
 -- If `inner` finds the tree of every shorter text, hanging its trees under the span's own tree gives the tree back.
 module _ (inner : Table → List Token → Option Tree) (k : ℕ)
-    (finds : (T : Table) (t : Tree) → Conditions T → SpanOk T t → InnerOk T t → length (flat t) < k → inner T (flat t) ≡ some t) where
-  hang-complete : (T : Table) → Conditions T → (t : Tree) → InnerOk T t → length (flat t) ≤ k → hang inner T (spanTree t) ≡ some t
+    (finds : (T : Table) (t : Tree) → Conditions T → SpanOk T t → InnerChecked T t → length (flat t) < k → inner T (flat t) ≡ some t) where
+  hang-complete : (T : Table) → Conditions T → (t : Tree) → InnerChecked T t → length (flat t) ≤ k → hang inner T (spanTree t) ≡ some t
   unfolding hang hangItem spanTree underBracket underBlock underOperator bodyTable
   hang-complete T c nothing h n = refl
   hang-complete T c (leaf t) h n = refl
@@ -66,22 +57,22 @@ module _ (inner : Table → List Token → Option Tree) (k : ℕ)
 
 -- The search finds every tree.
 pub treeIn-complete :
-    (k : ℕ) (T : Table) (t : Tree) → Conditions T → SpanOk T t → InnerOk T t → length (flat t) < k → treeIn k T (flat t) ≡ some t
+    (k : ℕ) (T : Table) (t : Tree) → Conditions T → SpanOk T t → InnerChecked T t → length (flat t) < k → treeIn k T (flat t) ≡ some t
 unfolding treeIn hangFound
 treeIn-complete zero T t c s h n = absurd (omega arith)
 treeIn-complete (suc k) T t c s h n =
     let e : treeOfSpan T (items (flat t)) ≡ some (spanTree t) =
     treeOfSpan-complete T c (items (flat t)) (spanTree t)
-    (record { yields = sym (items-flat t (plain-tree T t (s .0) h)); admitted = s .0; there = s .1 }) in
+    (record { yields = sym (items-flat t); admitted = s .0; there = s .1 }) in
     ap (hangFound (treeIn k) T) e ∙ hang-complete (treeIn k) k (treeIn-complete k) T c t h (omega arith)
 
-pub treeOf-complete : (T : Table) → Conditions T → (ts : List Token) (t : Tree) → IsTree T ts t → treeOf T ts ≡ some t
+pub treeOf-complete : (T : Table) → Conditions T → (ts : List Token) (t : Tree) → IsCheckedTree T ts t → treeOf T ts ≡ some t
 unfolding treeOf
 treeOf-complete T c ts t h =
     rw (← (h .tokens)) (treeIn-complete (suc (length (flat t))) T t c (h .outer) (h .inner) (omega arith))
 
 -- Any two trees of one text are the same tree.
-pub tree-unique : (T : Table) → Conditions T → (ts : List Token) (t u : Tree) → IsTree T ts t → IsTree T ts u → t ≡ u
+pub tree-unique : (T : Table) → Conditions T → (ts : List Token) (t u : Tree) → IsCheckedTree T ts t → IsCheckedTree T ts u → t ≡ u
 tree-unique T c ts t u h g =
     let p = treeOf-complete T c ts t h in
     let q = treeOf-complete T c ts u g in

@@ -6,22 +6,22 @@ use Prim.Native.Nat.{ℕ, suc, pred, _+_, _-_, _≤_, _<_}
 use native.Mathlib.Omega.{arith}
 use lib.ListN.{length, length-append}
 use Rattle.grammar.specs.Bytes.{Bytes}
-use Rattle.grammar.specs.Token.{Token}
+use Rattle.grammar.specs.Token.{Atom, characters}
 use Rattle.grammar.specs.Declaration.{Declaration, allTokens}
 use Rattle.grammar.specs.SpanTree.{fixity}
 use Rattle.grammar.specs.Tree.{Tree, nothing, leaf, bracket, block, node, flat, spanTree}
-use Rattle.grammar.specs.Nodes.{leafKind, operatorKind, charactersOffset, characters, count, nodeWords, firstChild, secondChild, words}
+use Rattle.grammar.specs.Nodes.{leafKind, operatorWords, charactersOffset, count, nodeWords, words}
 
 -- How many tokens a tree has.
-leaf-size : (t : Token) → length (flat (leaf t)) ≡ 1
+leaf-size : (a : Atom) → length (flat (leaf a)) ≡ 1
 unfolding flat
-leaf-size t = refl
+leaf-size a = refl
 
 bracket-size : (t : Tree) → length (flat (bracket t)) ≡ length (flat t) + 2
 unfolding flat
 bracket-size t = simp length-append (omega arith)
 
-block-size : (ds : List Declaration) (t : Tree) → length (flat (block ds t)) ≡ length (allTokens ds) + length (flat t) + 3
+pub block-size : (ds : List Declaration) (t : Tree) → length (flat (block ds t)) ≡ length (allTokens ds) + length (flat t) + 3
 unfolding flat
 block-size ds t = simp length-append (omega arith)
 
@@ -49,6 +49,6 @@ words-offsets f g (node l m r) i n h =
     let e = node-size l m r in
     let k = i + length (flat l) in
     rw (h k (omega arith) (omega arith))
-    (ap₂ (λ v w. v ++ (w ++ nodeWords (operatorKind (fixity (spanTree l) (spanTree r))) (firstChild l r n) (secondChild l r n) (g k) (length m)))
+    (ap₂ (λ v w. v ++ (w ++ operatorWords (fixity (spanTree l) (spanTree r)) (pred (n + count l)) (pred (n + count l + count r)) (g k) (length m)))
     (words-offsets f g l i n (λ j p q. h j (omega arith) (omega arith)))
     (words-offsets f g r (suc k) (n + count l) (λ j p q. h j (omega arith) (omega arith))))

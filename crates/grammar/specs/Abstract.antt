@@ -3,18 +3,7 @@ use mathlib.Core.Path.{_≡_}
 use mathlib.Core.List.{List, map}
 use Prim.Native.Nat.{ℕ}
 use Rattle.grammar.specs.Bytes.{Bytes}
-use Rattle.grammar.specs.Token.{
-  Token,
-  symbol,
-  number,
-  quoted,
-  opening,
-  closing,
-  semicolon,
-  keywordLet,
-  keywordIn,
-  keywordEnd,
-}
+use Rattle.grammar.specs.Token.{Atom, symbol, number, quoted}
 use Rattle.grammar.specs.Operator.{Fixity, Associativity}
 use Rattle.grammar.specs.Declaration.{Declaration, declares, clears, value}
 use Rattle.grammar.specs.Tree.{Tree, nothing, leaf, bracket, block, node}
@@ -23,18 +12,11 @@ use Rattle.grammar.specs.Tree.{Tree, nothing, leaf, bracket, block, node
 pub data Content : Type 0 where
   name : Bytes → Content
   numeral : ℕ → Content
-  noOperand : Content
 
-unfoldable pub content : Token → Content
+unfoldable pub content : Atom → Content
 content (symbol w) = name w
 content (number d) = numeral (value d)
 content (quoted c) = name c
-content opening = noOperand
-content closing = noOperand
-content semicolon = noOperand
-content keywordLet = noOperand
-content keywordIn = noOperand
-content keywordEnd = noOperand
 
 -- What a declaration means: "token by token, levels by value".
 pub data Change : Type 0 where
@@ -55,7 +37,7 @@ pub data AbstractTree : Type 0 where
 
 unfoldable pub abstract : Tree → AbstractTree
 abstract nothing = absent
-abstract (leaf t) = one (content t)
+abstract (leaf a) = one (content a)
 abstract (bracket t) = abstract t
 abstract (block ds t) = under (map change ds) (abstract t)
 abstract (node l m r) = operation (abstract l) m (abstract r)

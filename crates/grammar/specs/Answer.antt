@@ -6,14 +6,16 @@ use mathlib.Core.Option.{Option, none, some}
 use Prim.Native.Nat.{ℕ, suc, _*_, _≤_}
 use lib.Dec.{leb}
 use lib.ListN.{length, drop, getD}
+use Rattle.grammar.specs.Spans.{Span}
 use Rattle.grammar.specs.Bytes.{Bytes}
 use Rattle.grammar.specs.Token.{Token}
 use Rattle.grammar.specs.Outcome.{Outcome, refused, passed, andThen, placed}
 use Rattle.grammar.specs.Scan.{Placed, scan}
 use Rattle.grammar.specs.Nesting.{nesting}
-use Rattle.grammar.specs.Declaration.{start as startTable}
+use Rattle.grammar.specs.Declaration.{startTable}
+use Rattle.grammar.specs.Fault.{longestText, mostTokens}
 use Rattle.grammar.specs.Tree.{Tree}
-use Rattle.grammar.specs.Blocks.{checkBlocks, spans, firstWithout, treeOf}
+use Rattle.grammar.specs.Blocks.{checkBlocks, spans, treelessOpener, treeOf}
 use Rattle.grammar.specs.Nodes.{count, words, wordsPerNode}
 use Rattle.grammar.specs.Canonical.{canonical, canonicalText}
 
@@ -39,28 +41,21 @@ unfoldable pub spanOffset : Bytes → List Placed → Option ℕ → ℕ
 spanOffset text ps none = 0
 spanOffset text ps (some i) = offsetOf text ps i
 
--- Check 11 and the tree.
-unfoldable pub found : List Placed → Option Tree → Outcome Reading
-found ps none = refused 11 0
-found ps (some t) = passed (record { tokens = ps; tree = t })
+-- The spans of a text.
+abbrev pub spansOf : List Placed → List Span
+spansOf ps = spans (suc (length ps)) startTable none 0 (tokensOf ps)
 
-unfoldable pub readSpans : Bytes → List Placed → Option (Option ℕ) → Outcome Reading
-readSpans text ps (some o) = refused 11 (spanOffset text ps o)
-readSpans text ps none = found ps (treeOf startTable (tokensOf ps))
+-- Check 11: the tree of the text, or the place of its first span without one.
+unfoldable pub readSpans : Bytes → List Placed → Option Tree → Outcome Reading
+readSpans text ps (some t) = passed (record { tokens = ps; tree = t })
+readSpans text ps none = refused 11 (spanOffset text ps (treelessOpener (spansOf ps)))
 
 -- Checks 6 to 11.
 unfoldable pub readTokens : Bytes → List Placed → Outcome Reading
 readTokens text ps =
     andThen (placed (offsetOf text ps) (nesting [] 0 (tokensOf ps))) (λ u.
     andThen (placed (offsetOf text ps) (checkBlocks (suc (length ps)) startTable 0 (tokensOf ps))) (λ v.
-    readSpans text ps (firstWithout (spans (suc (length ps)) startTable none 0 (tokensOf ps)))))
-
--- "16,384 bytes, 1,024 tokens .. pass; one more is refused."
-abbrev pub longestText : ℕ
-longestText = 16384
-
-abbrev pub mostTokens : ℕ
-mostTokens = 1024
+    readSpans text ps (treeOf startTable (tokensOf ps))))
 
 -- "Order: 1; 2 to 5 ..; 6 and 7 ..; then blocks ..; then 11 ..": checks 1 to 11. Places are byte offsets.
 unfoldable pub readText : Bytes → Outcome Reading
@@ -70,8 +65,8 @@ readText text =
       | false ↦ refused 1 longestText
     ]
 
--- "a text is past checks 1 to 10 when nothing that comes before 11 in the order of refusals holds of it": the text, its tokens.
-pub record Past (text : Bytes) (ps : List Placed) : Type 0 where
+-- A text and its tokens that checks 1 to 10 let pass.
+pub record PastChecks (text : Bytes) (ps : List Placed) : Type 0 where
   pub short : length text ≤ longestText
   pub scanned : scan mostTokens 0 text ≡ passed ps
   pub nested : nesting [] 0 (tokensOf ps) ≡ passed tt

@@ -9,6 +9,7 @@ use Rattle.grammar.specs.Outcome.{Outcome, passed, andThen}
 use Rattle.grammar.specs.Operator.{Table}
 use Rattle.grammar.specs.Declaration.{Declaration, declareAll, declarations, enter}
 use Rattle.grammar.specs.Span.{Item, single, pair, scope, itemTokens, items}
+use Rattle.grammar.specs.Spans.{Span}
 use Rattle.grammar.specs.SpanTree.{SpanTree, missing, operand, apply}
 use Rattle.grammar.specs.Tree.{Tree, nothing, leaf, bracket, block, node}
 use Rattle.grammar.specs.Search.{treeOfSpan}
@@ -17,43 +18,33 @@ use Rattle.grammar.specs.Search.{treeOfSpan}
 unfoldable pub bodyTable : Table → List Token → Table
 bodyTable T ds = declareAll T (declarations ds)
 
--- "after `end` the outer table is back": the operators in force behind an item.
-abbrev pub tableBehind : Table → Item → Table
-tableBehind T x = T
-
 -- "then blocks by their `let`, each declaration complete .. (8, then 9), then 10". The first number is fuel: no less than the
 -- depth. `i` is the number of the first token.
 module _ (inner : Table → ℕ → List Token → Outcome (Unit {0})) where
   unfoldable pub checkItem : Table → ℕ → Item → Outcome (Unit {0})
-  checkItem T i (single t) = passed tt
+  checkItem T i (single a) = passed tt
   checkItem T i (pair ts) = inner T (suc i) ts
   checkItem T i (scope ds ts) =
       andThen (enter (length ds) T (suc i) ds) (λ U. inner U (suc (suc (i + length ds))) ts)
 
   unfoldable pub checkItems : Table → ℕ → List Item → Outcome (Unit {0})
   checkItems T i [] = passed tt
-  checkItems T i (x ∷ xs) = andThen (checkItem T i x) (λ u. checkItems (tableBehind T x) (i + length (itemTokens x)) xs)
+  checkItems T i (x ∷ xs) = andThen (checkItem T i x) (λ u. checkItems T (i + length (itemTokens x)) xs)
 
 unfoldable pub checkBlocks : ℕ → Table → ℕ → List Token → Outcome (Unit {0})
 checkBlocks zero T i ts = passed tt
 checkBlocks (suc k) T i ts = checkItems (checkBlocks k) T i (items ts)
 
--- A span: the number of its opener ("0, the `(`, or the `in`": none for the whole text), the operators in force and its items.
-pub record Span : Type 0 where
-  pub opener : Option ℕ
-  pub table : Table
-  pub contents : List Item
-
 -- The spans of a text by their start: the outermost, then those of its items in order.
 module _ (inner : Table → Option ℕ → ℕ → List Token → List Span) where
   unfoldable pub itemSpans : Table → ℕ → Item → List Span
-  itemSpans T i (single t) = []
+  itemSpans T i (single a) = []
   itemSpans T i (pair ts) = inner T (some i) (suc i) ts
   itemSpans T i (scope ds ts) = inner (bodyTable T ds) (some (suc (i + length ds))) (suc (suc (i + length ds))) ts
 
   unfoldable pub allItemSpans : Table → ℕ → List Item → List Span
   allItemSpans T i [] = []
-  allItemSpans T i (x ∷ xs) = itemSpans T i x ++ allItemSpans (tableBehind T x) (i + length (itemTokens x)) xs
+  allItemSpans T i (x ∷ xs) = itemSpans T i x ++ allItemSpans T (i + length (itemTokens x)) xs
 
 unfoldable pub spans : ℕ → Table → Option ℕ → ℕ → List Token → List Span
 spans zero T o i ts = []
@@ -64,6 +55,10 @@ spans (suc k) T o i ts =
 unfoldable pub firstWithout : List Span → Option (Option ℕ)
 firstWithout [] = none
 firstWithout (s ∷ ss) = elim (treeOfSpan (s .table) (s .contents)) [ none ↦ some (s .opener) | some t ↦ firstWithout ss ]
+
+-- Its place: "0, the `(`, or the `in`" (none for the whole text).
+unfoldable pub treelessOpener : List Span → Option ℕ
+treelessOpener ss = elim (firstWithout ss) [ none ↦ none | some o ↦ o ]
 
 -- The tree of a text: the tree of its outermost span, with the trees of the inner ones hung under their brackets and blocks.
 unfoldable pub underBracket : Option Tree → Option Tree
@@ -81,7 +76,7 @@ underOperator m (some l) (some r) = some (node l m r)
 
 module _ (inner : Table → List Token → Option Tree) where
   unfoldable pub hangItem : Table → Item → Option Tree
-  hangItem T (single t) = some (leaf t)
+  hangItem T (single a) = some (leaf a)
   hangItem T (pair ts) = underBracket (inner T ts)
   hangItem T (scope ds ts) = underBlock (declarations ds) (inner (bodyTable T ds) ts)
 

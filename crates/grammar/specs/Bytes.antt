@@ -32,3 +32,8 @@ every p (b ∷ s) = elim (p b) [ true ↦ every p s | false ↦ false ]
 unfoldable pub isEmpty {ℓ} : {A : Type ℓ} → List A → Bool
 isEmpty [] = true
 isEmpty (x ∷ xs) = false
+
+-- What holds of every element of a list.
+abbrev pub All : {A : Type 0} → (A → Type 0) → List A → Type 0
+All P [] = Unit {0}
+All P (x ∷ xs) = P x × All P xs

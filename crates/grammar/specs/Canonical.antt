@@ -5,23 +5,10 @@ use mathlib.Core.List.{List, [], _∷_, _++_, map}
 use mathlib.Core.Option.{Option, none, some}
 use lib.Dec.{eqb}
 use Rattle.grammar.specs.Bytes.{Bytes, bytes}
-use Rattle.grammar.specs.Token.{
-  Token,
-  symbol,
-  number,
-  quoted,
-  opening,
-  closing,
-  semicolon,
-  keywordLet,
-  keywordIn,
-  keywordEnd,
-  spelling,
-  isSymbol,
-}
-use Rattle.grammar.specs.Operator.{Role, Table, role, inForce}
+use Rattle.grammar.specs.Token.{Atom, symbol, number, quoted, Token, spelling, isSymbol}
+use Rattle.grammar.specs.Operator.{Role, Table, inForce}
 use Rattle.grammar.specs.Declaration.{Declaration, declares, clears, declareAll}
-use Rattle.grammar.specs.SpanTree.{Position, onLeft, onRight, admits, fixity, root}
+use Rattle.grammar.specs.SpanTree.{Position, onLeft, onRight, admits, roleOver, root}
 use Rattle.grammar.specs.Tree.{Tree, nothing, leaf, bracket, block, node, flat, spanTree}
 
 -- "Numbers lose leading zeros (0 remains `0`)".
@@ -42,19 +29,13 @@ stripDeclaration (declares f a d m) = declares f a (strip d) m
 stripDeclaration (clears m) = clears m
 
 -- "A name is bare if it is one word or sign, no structure word and no mark in force there; else quoted."
-unfoldable pub writtenName : Table → Bytes → Token
+unfoldable pub writtenName : Table → Bytes → Atom
 writtenName T c = elim (isSymbol c && not (inForce T c)) [ true ↦ symbol c | false ↦ quoted c ]
 
-unfoldable pub writtenToken : Table → Token → Token
-writtenToken T (symbol w) = writtenName T w
-writtenToken T (number d) = number (strip d)
-writtenToken T (quoted c) = writtenName T c
-writtenToken T opening = opening
-writtenToken T closing = closing
-writtenToken T semicolon = semicolon
-writtenToken T keywordLet = keywordLet
-writtenToken T keywordIn = keywordIn
-writtenToken T keywordEnd = keywordEnd
+unfoldable pub writtenAtom : Table → Atom → Atom
+writtenAtom T (symbol w) = writtenName T w
+writtenAtom T (number d) = number (strip d)
+writtenAtom T (quoted c) = writtenName T c
 
 -- "bracket exactly those operands that their place doesn't admit": the operand `t` at the side `s` of an operator in the role.
 unfoldable pub fitted : Table → Position → Option Role → Tree → Tree
@@ -64,14 +45,14 @@ fitted T s (some r) t = elim (admits s r (root T (spanTree t))) [ true ↦ t | f
 -- The tree of the canonical text: "Take out every bracket, then bracket exactly those operands that their place doesn't admit."
 unfoldable pub canonical : Table → Tree → Tree
 canonical T nothing = nothing
-canonical T (leaf t) = leaf (writtenToken T t)
+canonical T (leaf a) = leaf (writtenAtom T a)
 canonical T (bracket t) = canonical T t
 canonical T (block ds t) = block (map stripDeclaration ds) (canonical (declareAll T ds) t)
 canonical T (node l m r) =
     node
-    (fitted T onLeft (role T m (fixity (spanTree l) (spanTree r))) (canonical T l))
+    (fitted T onLeft (roleOver T (spanTree l) m (spanTree r)) (canonical T l))
     m
-    (fitted T onRight (role T m (fixity (spanTree l) (spanTree r))) (canonical T r))
+    (fitted T onRight (roleOver T (spanTree l) m (spanTree r)) (canonical T r))
 
 -- "Write the tokens with one space between."
 unfoldable pub spaced : List Token → Bytes
@@ -88,7 +69,7 @@ canonicalText t = joinTokens (flat t)
 -- What a bracket pair holds; any other tree itself.
 unfoldable pub unwrapped : Tree → Tree
 unwrapped nothing = nothing
-unwrapped (leaf t) = leaf t
+unwrapped (leaf a) = leaf a
 unwrapped (bracket t) = t
 unwrapped (block ds t) = block ds t
 unwrapped (node l m r) = node l m r
@@ -101,9 +82,9 @@ refuses s (some r) o = not (admits s r o)
 -- where the tree stands.
 abbrev pub NoSpare : Table → Bool → Tree → Type 0
 NoSpare T needed nothing = Unit {0}
-NoSpare T needed (leaf t) = Unit {0}
+NoSpare T needed (leaf a) = Unit {0}
 NoSpare T needed (bracket t) = (needed ≡ true) × NoSpare T false t
 NoSpare T needed (block ds t) = NoSpare (declareAll T ds) false t
 NoSpare T needed (node l m r) =
-    NoSpare T (refuses onLeft (role T m (fixity (spanTree l) (spanTree r))) (root T (spanTree (unwrapped l)))) l
-    × NoSpare T (refuses onRight (role T m (fixity (spanTree l) (spanTree r))) (root T (spanTree (unwrapped r)))) r
+    NoSpare T (refuses onLeft (roleOver T (spanTree l) m (spanTree r)) (root T (spanTree (unwrapped l)))) l
+    × NoSpare T (refuses onRight (roleOver T (spanTree l) m (spanTree r)) (root T (spanTree (unwrapped r)))) r

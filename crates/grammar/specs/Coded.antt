@@ -6,46 +6,17 @@ use Prim.Native.Nat.{ℕ, zero, suc, _+_, _-_, _*_, _/_, _%_}
 use lib.Dec.{eqb}
 use lib.ListN.{length, take, drop, getD}
 use Rattle.grammar.specs.Bytes.{Bytes}
-use Rattle.grammar.specs.Token.{
-  Token,
-  symbol,
-  number,
-  quoted,
-  opening,
-  closing,
-  semicolon,
-  keywordLet,
-  keywordIn,
-  keywordEnd,
-  spelling,
-}
+use Rattle.grammar.specs.Token.{symbol, number, quoted, opening, closing, semicolon, keywordLet, keywordIn, keywordEnd}
+use Rattle.grammar.specs.Token.{Token, atom, structure, structureNumber, spelling}
 use Rattle.grammar.specs.Scan.{Placed}
-use Rattle.grammar.specs.Operator.{
-  Fixity,
-  Prefix,
-  Infix,
-  Postfix,
-  Associativity,
-  left,
-  right,
-  non,
-  Role,
-  Roles,
-  Table,
-  inForce,
-}
+use Rattle.grammar.specs.Operator.{Fixity, Prefix, Infix, Postfix, Associativity, left, right, non, Role, Roles, Table, inForce}
 
 -- The number of a token's kind.
 unfoldable pub kindOf : Token → ℕ
-kindOf (symbol w) = 1
-kindOf (number d) = 2
-kindOf (quoted c) = 3
-kindOf opening = 4
-kindOf closing = 5
-kindOf semicolon = 6
-kindOf keywordLet = 7
-kindOf keywordIn = 8
-kindOf keywordEnd = 9
+kindOf (atom (symbol w)) = 1
+kindOf (atom (number d)) = 2
+kindOf (atom (quoted c)) = 3
+kindOf (structure s) = structureNumber s
 
 -- "A name's characters are handed out as they stand in the text, without quotes": of a token by its kind, offset and length.
 unfoldable pub charactersIn : Bytes → ℕ → ℕ → ℕ → Bytes
@@ -56,27 +27,27 @@ charactersIn text kind start size =
 unfoldable pub tokenOf : ℕ → Bytes → Token
 tokenOf kind c =
     elim (eqb kind 1) [
-      | true ↦ symbol c
+      | true ↦ atom (symbol c)
       | false ↦
           elim (eqb kind 2) [
-            | true ↦ number c
+            | true ↦ atom (number c)
             | false ↦
                 elim (eqb kind 3) [
-                  | true ↦ quoted c
+                  | true ↦ atom (quoted c)
                   | false ↦
                       elim (eqb kind 4) [
-                        | true ↦ opening
+                        | true ↦ structure opening
                         | false ↦
                             elim (eqb kind 5) [
-                              | true ↦ closing
+                              | true ↦ structure closing
                               | false ↦
                                   elim (eqb kind 6) [
-                                    | true ↦ semicolon
+                                    | true ↦ structure semicolon
                                     | false ↦
                                         elim (eqb kind 7) [
-                                          | true ↦ keywordLet
+                                          | true ↦ structure keywordLet
                                           | false ↦
-                                              elim (eqb kind 8) [ true ↦ keywordIn | false ↦ keywordEnd ]
+                                              elim (eqb kind 8) [ true ↦ structure keywordIn | false ↦ structure keywordEnd ]
                                         ]
                                   ]
                             ]
@@ -138,12 +109,7 @@ rolesOf p i q Postfix = roleOf q
 
 -- 1 for a quoted name whose characters are an operator in force, else 0.
 unfoldable pub nameNumber : Table → Token → ℕ
-nameNumber T (symbol w) = 0
-nameNumber T (number d) = 0
-nameNumber T (quoted c) = elim (inForce T c) [ true ↦ 1 | false ↦ 0 ]
-nameNumber T opening = 0
-nameNumber T closing = 0
-nameNumber T semicolon = 0
-nameNumber T keywordLet = 0
-nameNumber T keywordIn = 0
-nameNumber T keywordEnd = 0
+nameNumber T (atom (symbol w)) = 0
+nameNumber T (atom (number d)) = 0
+nameNumber T (atom (quoted c)) = elim (inForce T c) [ true ↦ 1 | false ↦ 0 ]
+nameNumber T (structure s) = 0

@@ -6,19 +6,22 @@ use Prim.Native.Nat.{ℕ, zero, suc, _+_, _*_, _-_}
 use lib.Dec.{leb}
 use lib.ListN.{length}
 use Rattle.grammar.specs.Bytes.{Bytes, bytes, same}
-use Rattle.grammar.specs.Token.{
-  Token,
-  symbol,
-  number,
-  quoted,
-  opening,
-  closing,
-  semicolon,
-  keywordLet,
-  keywordIn,
-  keywordEnd,
+use Rattle.grammar.specs.Token.{Token, atom, structure, symbol, number, quoted, semicolon, isStructure}
+use Rattle.grammar.specs.Operator.{
+  Fixity,
+  Prefix,
+  Infix,
+  Postfix,
+  Associativity,
+  left,
+  right,
+  non,
+  allowed,
+  Table,
+  declareRole,
+  removeRoles,
+  lawfulTable,
 }
-use Rattle.grammar.specs.Operator.{Fixity, Prefix, Infix, Postfix, Associativity, left, right, non, allowed, Table, declareRole, removeRoles, lawfulTable}
 use Rattle.grammar.specs.Outcome.{Outcome, refused, passed}
 
 -- "`infix SIDE LEVEL MARK ;`, `prefix SIDE LEVEL MARK ;`, `postfix SIDE LEVEL MARK ;`, `plain MARK ;`"
@@ -58,8 +61,8 @@ startDeclarations =
     ∷ declares Infix left (bytes "300") (bytes "*")
     ∷ []
 
-unfoldable pub start : Table
-start = declareAll [] startDeclarations
+unfoldable pub startTable : Table
+startTable = declareAll [] startDeclarations
 
 -- The words of declarations.
 unfoldable pub fixityWord : Fixity → Bytes
@@ -78,8 +81,13 @@ plainWord = bytes "plain"
 -- The tokens of declarations.
 unfoldable pub declarationTokens : Declaration → List Token
 declarationTokens (declares f a d m) =
-    symbol (fixityWord f) ∷ symbol (associativityWord a) ∷ number d ∷ symbol m ∷ semicolon ∷ []
-declarationTokens (clears m) = symbol plainWord ∷ symbol m ∷ semicolon ∷ []
+    atom (symbol (fixityWord f))
+    ∷ atom (symbol (associativityWord a))
+    ∷ atom (number d)
+    ∷ atom (symbol m)
+    ∷ structure semicolon
+    ∷ []
+declarationTokens (clears m) = atom (symbol plainWord) ∷ atom (symbol m) ∷ structure semicolon ∷ []
 
 unfoldable pub allTokens : List Declaration → List Token
 allTokens [] = []
@@ -108,37 +116,19 @@ pub data Parsed : Type 0 where
   parsed : Declaration → List Token → Parsed
 
 unfoldable pub symbolOf : Token → Option Bytes
-symbolOf (symbol w) = some w
-symbolOf (number d) = none
-symbolOf (quoted c) = none
-symbolOf opening = none
-symbolOf closing = none
-symbolOf semicolon = none
-symbolOf keywordLet = none
-symbolOf keywordIn = none
-symbolOf keywordEnd = none
+symbolOf (atom (symbol w)) = some w
+symbolOf (atom (number d)) = none
+symbolOf (atom (quoted c)) = none
+symbolOf (structure s) = none
 
 unfoldable pub precedenceOf : Token → Option Bytes
-precedenceOf (symbol w) = none
-precedenceOf (number d) = elim (isPrecedence d) [ true ↦ some d | false ↦ none ]
-precedenceOf (quoted c) = none
-precedenceOf opening = none
-precedenceOf closing = none
-precedenceOf semicolon = none
-precedenceOf keywordLet = none
-precedenceOf keywordIn = none
-precedenceOf keywordEnd = none
+precedenceOf (atom (symbol w)) = none
+precedenceOf (atom (number d)) = elim (isPrecedence d) [ true ↦ some d | false ↦ none ]
+precedenceOf (atom (quoted c)) = none
+precedenceOf (structure s) = none
 
 unfoldable pub isSemicolon : Token → Bool
-isSemicolon (symbol w) = false
-isSemicolon (number d) = false
-isSemicolon (quoted c) = false
-isSemicolon opening = false
-isSemicolon closing = false
-isSemicolon semicolon = true
-isSemicolon keywordLet = false
-isSemicolon keywordIn = false
-isSemicolon keywordEnd = false
+isSemicolon t = isStructure semicolon t
 
 unfoldable pub fixityNamed : Bytes → Option Fixity
 fixityNamed w =

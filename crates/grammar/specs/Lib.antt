@@ -5,8 +5,11 @@ pub mod Outcome
 pub mod Scan
 pub mod Operator
 pub mod Declaration
+pub mod Open
 pub mod Nesting
 pub mod Span
+pub mod Spans
+pub mod Fault
 pub mod SpanTree
 pub mod Tree
 pub mod Search
@@ -15,6 +18,7 @@ pub mod Nodes
 pub mod Abstract
 pub mod Canonical
 pub mod Answer
+pub mod Decoding
 pub mod Claim
 pub mod Listing
 pub mod Coded

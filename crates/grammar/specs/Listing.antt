@@ -5,8 +5,9 @@ use mathlib.Core.List.{List, [], _∷_, _++_}
 use Prim.Native.Nat.{ℕ, zero, suc, _+_, _*_, _/_, _%_}
 use lib.Dec.{ltb, eqb}
 use lib.ListN.{take, drop, getD, replicate}
+use Rattle.grammar.specs.Fault.{longestText, mostTokens}
 use Rattle.grammar.specs.Bytes.{Bytes, bytes}
-use Rattle.grammar.specs.Answer.{Answer, Result, read, canonicalize, longestText, mostTokens}
+use Rattle.grammar.specs.Answer.{Answer, Result, read, canonicalize}
 use Rattle.grammar.specs.Nodes.{wordsPerNode}
 
 -- A number in decimal. The first number is fuel.

@@ -4,23 +4,10 @@ use mathlib.Core.List.{List, [], _∷_}
 use Prim.Native.Nat.{ℕ, suc}
 use lib.Dec.{ltb}
 use lib.ListN.{length}
-use Rattle.grammar.specs.Token.{
-  Token,
-  symbol,
-  number,
-  quoted,
-  opening,
-  closing,
-  semicolon,
-  keywordLet,
-  keywordIn,
-  keywordEnd,
-}
+use Rattle.grammar.specs.Token.{Structure, opening, closing, semicolon, keywordLet, keywordIn, keywordEnd}
+use Rattle.grammar.specs.Token.{Token, atom, structure}
+use Rattle.grammar.specs.Open.{Open, inBracket, inDeclarations, inBody, deepest}
 use Rattle.grammar.specs.Outcome.{Outcome, refused, passed}
-
--- What is open: a bracket pair, a block before its `in`, a block after it.
-pub data Open : Type 0 where
-  inBracket inDeclarations inBody : Open
 
 -- What a token does to what is open, innermost first.
 pub data Move : Type 0 where
@@ -32,10 +19,7 @@ pub data Move : Type 0 where
 
 -- "Refusal 6: `;` outside declarations; `(`, `)`, `let` or `end` inside them; a closer or `in` that doesn't match the innermost
 -- opener; a block's second `in`." Outside every bracket and block nothing can be closed.
-unfoldable pub outermost : Token → Move
-outermost (symbol w) = stays
-outermost (number d) = stays
-outermost (quoted c) = stays
+unfoldable pub outermost : Structure → Move
 outermost opening = enters inBracket
 outermost closing = broken
 outermost semicolon = broken
@@ -43,10 +27,7 @@ outermost keywordLet = enters inDeclarations
 outermost keywordIn = broken
 outermost keywordEnd = broken
 
-unfoldable pub within : Open → Token → Move
-within o (symbol w) = stays
-within o (number d) = stays
-within o (quoted c) = stays
+unfoldable pub within : Open → Structure → Move
 within inBracket opening = enters inBracket
 within inBracket closing = leaves
 within inBracket semicolon = broken
@@ -67,16 +48,13 @@ within inBody keywordIn = broken
 within inBody keywordEnd = leaves
 
 unfoldable pub move : List Open → Token → Move
-move [] t = outermost t
-move (o ∷ os) t = within o t
+move os (atom a) = stays
+move [] (structure s) = outermost s
+move (o ∷ os) (structure s) = within o s
 
 unfoldable pub closeInnermost : List Open → List Open
 closeInnermost [] = []
 closeInnermost (o ∷ os) = os
-
--- "depth 32 .. pass; one more is refused."
-abbrev pub deepest : ℕ
-deepest = 32
 
 -- "6 and 7 token by token, 6 first"; what is open at the end is 6 behind the last token. `i` is the number of the next token.
 unfoldable pub nesting : List Open → ℕ → List Token → Outcome (Unit {0})

@@ -6,7 +6,10 @@ use Prim.Native.Nat.{ℕ, zero, suc, _+_}
 use lib.Dec.{leb, eqb}
 use lib.ListN.{take, drop, getD}
 use Rattle.grammar.specs.Bytes.{Bytes, bytes, same}
-use Rattle.grammar.specs.Token.{class, isBlankByte, letter, digit, sign, quote, opens, closes, separates, inWord, inSign, inNumber, inQuotes, Token, symbol, number, quoted, opening, closing, semicolon, keywordLet, keywordIn, keywordEnd, longestName, longestNumber}
+use Rattle.grammar.specs.Token.{class, isBlankByte, letter, digit, sign, quote, opens, closes, separates}
+use Rattle.grammar.specs.Token.{inWord, inSign, inNumber, inQuotes, longestName, longestNumber}
+use Rattle.grammar.specs.Token.{symbol, number, quoted, opening, closing, semicolon, keywordLet, keywordIn, keywordEnd}
+use Rattle.grammar.specs.Token.{Token, atom, structure}
 use Rattle.grammar.specs.Outcome.{Outcome, refused, passed}
 
 pub record Placed : Type 0 where
@@ -27,12 +30,12 @@ pub data Front : Type 0 where
 unfoldable pub keywordOrSymbol : Bytes → Token
 keywordOrSymbol w =
     elim (same w (bytes "let")) [
-      | true ↦ keywordLet
+      | true ↦ structure keywordLet
       | false ↦
           elim (same w (bytes "in")) [
-            | true ↦ keywordIn
+            | true ↦ structure keywordIn
             | false ↦
-                elim (same w (bytes "end")) [ true ↦ keywordEnd | false ↦ symbol w ]
+                elim (same w (bytes "end")) [ true ↦ structure keywordEnd | false ↦ atom (symbol w) ]
           ]
     ]
 
@@ -44,7 +47,7 @@ atMost most n t = elim (leb n most) [ true ↦ taken t n | false ↦ wrong 4 ]
 unfoldable pub quotedName : Bytes → Front
 quotedName s =
     let n = run inQuotes s in
-    elim (leb 1 n && leb n longestName && eqb (getD s n 0) 39) [ true ↦ taken (quoted (take n s)) (n + 2) | false ↦ wrong 3 ]
+    elim (leb 1 n && leb n longestName && eqb (getD s n 0) 39) [ true ↦ taken (atom (quoted (take n s))) (n + 2) | false ↦ wrong 3 ]
 
 -- The token that begins with the bytes `s`, whose first byte is of class `c`. "2: byte begins no token"
 unfoldable pub frontOf : ℕ → Bytes → Front
@@ -53,21 +56,21 @@ frontOf c s =
       | true ↦ atMost longestName (run inWord s) (keywordOrSymbol (take (run inWord s) s))
       | false ↦
           elim (eqb c sign) [
-            | true ↦ atMost longestName (run inSign s) (symbol (take (run inSign s) s))
+            | true ↦ atMost longestName (run inSign s) (atom (symbol (take (run inSign s) s)))
             | false ↦
                 elim (eqb c digit) [
-                  | true ↦ atMost longestNumber (run inNumber s) (number (take (run inNumber s) s))
+                  | true ↦ atMost longestNumber (run inNumber s) (atom (number (take (run inNumber s) s)))
                   | false ↦
                       elim (eqb c quote) [
                         | true ↦ quotedName (drop 1 s)
                         | false ↦
                             elim (eqb c opens) [
-                              | true ↦ taken opening 1
+                              | true ↦ taken (structure opening) 1
                               | false ↦
                                   elim (eqb c closes) [
-                                    | true ↦ taken closing 1
+                                    | true ↦ taken (structure closing) 1
                                     | false ↦
-                                        elim (eqb c separates) [ true ↦ taken semicolon 1 | false ↦ wrong 2 ]
+                                        elim (eqb c separates) [ true ↦ taken (structure semicolon) 1 | false ↦ wrong 2 ]
                                   ]
                             ]
                       ]

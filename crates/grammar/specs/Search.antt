@@ -1,12 +1,12 @@
 -- The tree of a span, found: document 01, "The root of a span is sought among its marks of the widest level".
-use mathlib.Core.Bool.{Bool, true, false, _&&_, _||_}
+use mathlib.Core.Bool.{Bool, true, false, _&&_}
 use mathlib.Core.List.{List, [], _∷_}
 use mathlib.Core.Option.{Option, none, some}
 use Prim.Native.Nat.{ℕ, zero, suc, max}
 use lib.Dec.{eqb}
 use lib.ListN.{length}
 use Rattle.grammar.specs.Bytes.{Bytes, isEmpty}
-use Rattle.grammar.specs.Token.{symbol, number, quoted, opening, closing, semicolon, keywordLet, keywordIn, keywordEnd}
+use Rattle.grammar.specs.Token.{symbol, number, quoted}
 use Rattle.grammar.specs.Operator.{Prefix, Infix, Postfix, Role, Roles, Table, role, hasRole}
 use Rattle.grammar.specs.Span.{Item, single, pair, scope}
 use Rattle.grammar.specs.SpanTree.{
@@ -14,8 +14,7 @@ use Rattle.grammar.specs.SpanTree.{
   missing,
   operand,
   apply,
-  present,
-  fixity,
+  roleOver,
   root,
   rootPrecedence,
   rightRoot,
@@ -35,12 +34,6 @@ unfoldable pub symbolAt : Item → Option Bytes
 symbolAt (single (symbol w)) = some w
 symbolAt (single (number d)) = none
 symbolAt (single (quoted c)) = none
-symbolAt (single opening) = none
-symbolAt (single closing) = none
-symbolAt (single semicolon) = none
-symbolAt (single keywordLet) = none
-symbolAt (single keywordIn) = none
-symbolAt (single keywordEnd) = none
 symbolAt (pair ts) = none
 symbolAt (scope ds ts) = none
 
@@ -66,18 +59,18 @@ pub record Split : Type 0 where
   pub operator : Bytes
   pub after : List Item
 
-unfoldable pub behind : Item → Option Split → Option Split
-behind i none = none
-behind i (some s) = some (record { before = i ∷ s .before; operator = s .operator; after = s .after })
+unfoldable pub shifted : Item → Option Split → Option Split
+shifted i none = none
+shifted i (some s) = some (record { before = i ∷ s .before; operator = s .operator; after = s .after })
 
 -- The first and the last operator of precedence `p`.
 unfoldable pub firstOf : Table → ℕ → List Item → Option Split
 firstOf T p [] = none
 firstOf T p (i ∷ is) =
-    elim (operatorOf T p i) [ some m ↦ some (record { before = []; operator = m; after = is }) | none ↦ behind i (firstOf T p is) ]
+    elim (operatorOf T p i) [ some m ↦ some (record { before = []; operator = m; after = is }) | none ↦ shifted i (firstOf T p is) ]
 
 unfoldable pub lastHere : Table → ℕ → Item → List Item → Option Split → Option Split
-lastHere T p i is (some s) = behind i (some s)
+lastHere T p i is (some s) = shifted i (some s)
 lastHere T p i is none =
     elim (operatorOf T p i) [ some m ↦ some (record { before = []; operator = m; after = is }) | none ↦ none ]
 
@@ -102,7 +95,7 @@ unfoldable pub joined : Table → Option SpanTree → Bytes → Option SpanTree 
 joined T none m r = none
 joined T (some l) m none = none
 joined T (some l) m (some r) =
-    elim ((present l || present r) && admitsBoth (role T m (fixity l r)) (root T l) (root T r)) [ true ↦ some (apply l m r) | false ↦ none ]
+    elim (admitsBoth (roleOver T l m r) (root T l) (root T r)) [ true ↦ some (apply l m r) | false ↦ none ]
 
 -- The tree of a part of a span in which no operator is: one operand.
 unfoldable pub lone : Table → Item → List Item → Option SpanTree

@@ -1,31 +1,46 @@
 -- Document 01, "Trees": "A span is the whole text, the inside of a bracket pair, or a block's body. In a span, an inner bracket
 -- pair or block is one operand."
+use mathlib.Core.Path.{_≡_}
 use mathlib.Core.Bool.{Bool, true, false}
 use mathlib.Core.List.{List, [], _∷_, _++_}
 use Prim.Native.Nat.{ℕ, zero, suc}
-use Rattle.grammar.specs.Token.{
-  Token,
-  symbol,
-  number,
-  quoted,
-  opening,
-  closing,
-  semicolon,
-  keywordLet,
-  keywordIn,
-  keywordEnd,
-}
+use Rattle.grammar.specs.Bytes.{All}
+use Rattle.grammar.specs.Token.{Atom, opening, closing, semicolon, keywordLet, keywordIn, keywordEnd}
+use Rattle.grammar.specs.Token.{Token, atom, structure, isStructure}
 
--- What a span is made of: tokens of its own, bracket pairs with what is inside, blocks with their declarations and body.
+-- What a span is made of: names, numbers and operators of its own, bracket pairs with what is inside, blocks with their declarations
+-- and body.
 pub data Item : Type 0 where
-  single : Token → Item
+  single : Atom → Item
   pair : List Token → Item
   scope : List Token → List Token → Item
 
 unfoldable pub itemTokens : Item → List Token
-itemTokens (single t) = t ∷ []
-itemTokens (pair ts) = opening ∷ ts ++ closing ∷ []
-itemTokens (scope ds ts) = keywordLet ∷ ds ++ keywordIn ∷ ts ++ keywordEnd ∷ []
+itemTokens (single a) = atom a ∷ []
+itemTokens (pair ts) = structure opening ∷ ts ++ structure closing ∷ []
+itemTokens (scope ds ts) = structure keywordLet ∷ ds ++ structure keywordIn ∷ ts ++ structure keywordEnd ∷ []
+
+unfoldable pub allItemTokens : List Item → List Token
+allItemTokens [] = []
+allItemTokens (i ∷ is) = itemTokens i ++ allItemTokens is
+
+-- The tokens that can stand in a declaration part: names, operators, numbers and `;` (of structure, the others are refused with 6, and
+-- `in` ends it).
+abbrev pub InDeclarations : Token → Type 0
+InDeclarations (atom a) = Unit {0}
+InDeclarations (structure s) = s ≡ semicolon
+
+-- The items of a span, from its tokens: "In a span, an inner bracket pair or block is one operand." What is inside a pair or a body is
+-- a span again.
+pub data ItemsOf : List Token → List Item → Type 0 where
+  empty : ItemsOf [] []
+  own : {a : Atom} {ts : List Token} {is : List Item} → ItemsOf ts is → ItemsOf (atom a ∷ ts) (single a ∷ is)
+  inner :
+      {us ts : List Token} {ks is : List Item} → ItemsOf us ks → ItemsOf ts is
+      → ItemsOf (structure opening ∷ us ++ structure closing ∷ ts) (pair us ∷ is)
+  body :
+      {ds us ts : List Token} {ks is : List Item} → All InDeclarations ds → ItemsOf us ks → ItemsOf ts is
+      → ItemsOf (structure keywordLet ∷ ds ++ structure keywordIn ∷ us ++ structure keywordEnd ∷ ts) (scope ds us ∷ is)
 
 -- What a token does: it opens a bracket pair (false) or a block (true), it closes one, or neither.
 pub data Effect : Type 0 where
@@ -34,26 +49,21 @@ pub data Effect : Type 0 where
   neither : Effect
 
 unfoldable pub effect : Token → Effect
-effect (symbol w) = neither
-effect (number d) = neither
-effect (quoted c) = neither
-effect opening = opensOne false
-effect closing = closesOne
-effect semicolon = neither
-effect keywordLet = opensOne true
-effect keywordIn = neither
-effect keywordEnd = closesOne
+effect (atom a) = neither
+effect (structure opening) = opensOne false
+effect (structure closing) = closesOne
+effect (structure semicolon) = neither
+effect (structure keywordLet) = opensOne true
+effect (structure keywordIn) = neither
+effect (structure keywordEnd) = closesOne
+
+-- The item that a token of the span itself is.
+unfoldable pub ownItem : Token → List Item
+ownItem (atom a) = single a ∷ []
+ownItem (structure s) = []
 
 unfoldable pub isIn : Token → Bool
-isIn (symbol w) = false
-isIn (number d) = false
-isIn (quoted c) = false
-isIn opening = false
-isIn closing = false
-isIn semicolon = false
-isIn keywordLet = false
-isIn keywordIn = true
-isIn keywordEnd = false
+isIn t = isStructure keywordIn t
 
 unfoldable pub beforeIn : List Token → List Token
 beforeIn [] = []
@@ -79,7 +89,7 @@ itemsFrom outside (t ∷ ts) =
     elim (effect t) [
       | opensOne b ↦ itemsFrom (inside b 0 []) ts
       | closesOne ↦ itemsFrom outside ts
-      | neither ↦ single t ∷ itemsFrom outside ts
+      | neither ↦ ownItem t ++ itemsFrom outside ts
     ]
 itemsFrom (inside b zero us) (t ∷ ts) =
     elim (effect t) [

@@ -6,32 +6,8 @@ use mathlib.Core.Option.{Option, none, some}
 use Prim.Native.Nat.{ℕ}
 use lib.Dec.{ltb, eqb}
 use Rattle.grammar.specs.Bytes.{Bytes}
-use Rattle.grammar.specs.Token.{
-  Token,
-  symbol,
-  number,
-  quoted,
-  opening,
-  closing,
-  semicolon,
-  keywordLet,
-  keywordIn,
-  keywordEnd,
-}
-use Rattle.grammar.specs.Operator.{
-  Fixity,
-  Prefix,
-  Infix,
-  Postfix,
-  Associativity,
-  left,
-  right,
-  non,
-  Role,
-  Table,
-  role,
-  inForce,
-}
+use Rattle.grammar.specs.Token.{Atom, symbol, number, quoted}
+use Rattle.grammar.specs.Operator.{Fixity, Prefix, Infix, Postfix, Associativity, left, right, non, Role, Table, role, inForce}
 use Rattle.grammar.specs.Span.{Item, single, pair, scope}
 
 -- A tree of a span. An operator stands between its operands; where it has none on a side, that operand is `missing`.
@@ -52,20 +28,30 @@ present missing = false
 present (operand i) = true
 present (apply l m r) = true
 
--- Which fixity an operator has, by the operands that it has: (on the left, on the right).
-unfoldable pub fixityBy : Bool → Bool → Fixity
-fixityBy false r = Prefix
-fixityBy true true = Infix
-fixityBy true false = Postfix
+-- Which fixity an operator has, by the operands that it has: (on the left, on the right). Without operands it has none.
+unfoldable pub fixityBy : Bool → Bool → Option Fixity
+fixityBy true true = some Infix
+fixityBy true false = some Postfix
+fixityBy false true = some Prefix
+fixityBy false false = none
 
-unfoldable pub fixity : SpanTree → SpanTree → Fixity
+unfoldable pub fixity : SpanTree → SpanTree → Option Fixity
 fixity l r = fixityBy (present l) (present r)
+
+-- The role of an operator of that fixity, where it has one.
+unfoldable pub roleOfFixity : Table → Bytes → Option Fixity → Option Role
+roleOfFixity T m none = none
+roleOfFixity T m (some f) = role T m f
+
+-- The role in which an operator stands over these operands.
+unfoldable pub roleOver : Table → SpanTree → Bytes → SpanTree → Option Role
+roleOver T l m r = roleOfFixity T m (fixity l r)
 
 -- The role of a tree's root. A tree that is one operand has none.
 unfoldable pub root : Table → SpanTree → Option Role
 root T missing = none
 root T (operand i) = none
-root T (apply l m r) = role T m (fixity l r)
+root T (apply l m r) = roleOver T l m r
 
 -- "Names, numbers, brackets and blocks have level 0; an operator's tree has the level of its mark."
 unfoldable pub rootPrecedence : Option Role → ℕ
@@ -106,19 +92,13 @@ admitsBoth none l r = false
 admitsBoth (some p) l r = admits onLeft p l && admits onRight p r
 
 -- "A word or sign without a role in force is a name."
-unfoldable pub isOperandToken : Table → Token → Bool
-isOperandToken T (symbol w) = not (inForce T w)
-isOperandToken T (number d) = true
-isOperandToken T (quoted c) = true
-isOperandToken T opening = false
-isOperandToken T closing = false
-isOperandToken T semicolon = false
-isOperandToken T keywordLet = false
-isOperandToken T keywordIn = false
-isOperandToken T keywordEnd = false
+unfoldable pub isOperandAtom : Table → Atom → Bool
+isOperandAtom T (symbol w) = not (inForce T w)
+isOperandAtom T (number d) = true
+isOperandAtom T (quoted c) = true
 
 unfoldable pub isOperand : Table → Item → Bool
-isOperand T (single t) = isOperandToken T t
+isOperand T (single a) = isOperandAtom T a
 isOperand T (pair ts) = true
 isOperand T (scope ds ts) = true
 
@@ -128,7 +108,7 @@ abbrev pub Admitted : Table → SpanTree → Type 0
 Admitted T missing = Unit {0}
 Admitted T (operand i) = isOperand T i ≡ true
 Admitted T (apply l m r) =
-    Admitted T l × Admitted T r × (present l || present r ≡ true) × (admitsBoth (role T m (fixity l r)) (root T l) (root T r) ≡ true)
+    Admitted T l × Admitted T r × (admitsBoth (roleOver T l m r) (root T l) (root T r) ≡ true)
 
 -- "Nothing at all has no tree".
 pub record IsSpanTree (T : Table) (is : List Item) (s : SpanTree) : Type 0 where

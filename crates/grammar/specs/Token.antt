@@ -37,16 +37,16 @@ separates = 8
 abbrev pub other : ℕ
 other = 9
 
-abbrev pub within : ℕ → ℕ → ℕ → Bool
-within low high b = leb low b && leb b high
+abbrev pub between : ℕ → ℕ → ℕ → Bool
+between low high b = leb low b && leb b high
 
 -- "Blank bytes are 9, 10, 13 and 32".
 abbrev pub isBlank : ℕ → Bool
-isBlank b = within 9 10 b || eqb b 13 || eqb b 32
+isBlank b = between 9 10 b || eqb b 13 || eqb b 32
 
 -- "a letter (`A` to `Z`, `a` to `z`)"
 abbrev pub isLetter : ℕ → Bool
-isLetter b = within 65 90 b || within 97 122 b
+isLetter b = between 65 90 b || between 97 122 b
 
 -- "`+ - * / < > = ! & | ^ ~ : ? @ # $ %`"
 abbrev pub signs : Bytes
@@ -61,7 +61,7 @@ class b =
           elim (isLetter b) [
             | true ↦ letter
             | false ↦
-                elim (within 48 57 b) [
+                elim (between 48 57 b) [
                   | true ↦ digit
                   | false ↦
                       elim (eqb b 95) [
@@ -109,31 +109,53 @@ inNumber b = eqb (class b) digit
 
 -- "bytes from 32 to 126 other than `'`"
 unfoldable pub inQuotes : ℕ → Bool
-inQuotes b = within 32 126 b && not (eqb b 39)
+inQuotes b = between 32 126 b && not (eqb b 39)
 
--- A token. `symbol`: a word or sign that is no structure word; `quoted`: a name's characters without the quotes.
+-- A token with characters: a word or sign that is no structure word (`symbol`), a number, or a quoted name without its quotes.
+pub data Atom : Type 0 where
+  symbol : Bytes → Atom
+  number : Bytes → Atom
+  quoted : Bytes → Atom
+
+-- A token of structure: a solo or a structure word.
+pub data Structure : Type 0 where
+  opening closing semicolon keywordLet keywordIn keywordEnd : Structure
+
 pub data Token : Type 0 where
-  symbol : Bytes → Token
-  number : Bytes → Token
-  quoted : Bytes → Token
-  opening : Token
-  closing : Token
-  semicolon : Token
-  keywordLet : Token
-  keywordIn : Token
-  keywordEnd : Token
+  atom : Atom → Token
+  structure : Structure → Token
+
+-- "A name's characters are handed out as they stand in the text, without quotes"; of a number, its digits.
+unfoldable pub characters : Atom → Bytes
+characters (symbol w) = w
+characters (number d) = d
+characters (quoted c) = c
 
 -- The bytes of a token as they stand in a text.
 unfoldable pub spelling : Token → Bytes
-spelling (symbol w) = w
-spelling (number d) = d
-spelling (quoted c) = 39 ∷ c ++ 39 ∷ []
-spelling opening = bytes "("
-spelling closing = bytes ")"
-spelling semicolon = bytes ";"
-spelling keywordLet = bytes "let"
-spelling keywordIn = bytes "in"
-spelling keywordEnd = bytes "end"
+spelling (atom (symbol w)) = w
+spelling (atom (number d)) = d
+spelling (atom (quoted c)) = 39 ∷ c ++ 39 ∷ []
+spelling (structure opening) = bytes "("
+spelling (structure closing) = bytes ")"
+spelling (structure semicolon) = bytes ";"
+spelling (structure keywordLet) = bytes "let"
+spelling (structure keywordIn) = bytes "in"
+spelling (structure keywordEnd) = bytes "end"
+
+-- The tokens of structure by number.
+unfoldable pub structureNumber : Structure → ℕ
+structureNumber opening = 4
+structureNumber closing = 5
+structureNumber semicolon = 6
+structureNumber keywordLet = 7
+structureNumber keywordIn = 8
+structureNumber keywordEnd = 9
+
+-- The token is that one of structure.
+unfoldable pub isStructure : Structure → Token → Bool
+isStructure s (atom a) = false
+isStructure s (structure u) = eqb (structureNumber s) (structureNumber u)
 
 -- "`let`, `in` and `end` are structure words." (here: keywords)
 unfoldable pub isKeyword : Bytes → Bool
@@ -164,15 +186,10 @@ isSymbol w = (isWord w || isSign w) && not (isKeyword w) && leb (length w) longe
 
 -- What a token is.
 unfoldable pub isToken : Token → Bool
-isToken (symbol w) = isSymbol w
-isToken (number d) = isNumber d && leb (length d) longestNumber
-isToken (quoted c) = leb 1 (length c) && leb (length c) longestName && every inQuotes c
-isToken opening = true
-isToken closing = true
-isToken semicolon = true
-isToken keywordLet = true
-isToken keywordIn = true
-isToken keywordEnd = true
+isToken (atom (symbol w)) = isSymbol w
+isToken (atom (number d)) = isNumber d && leb (length d) longestNumber
+isToken (atom (quoted c)) = leb 1 (length c) && leb (length c) longestName && every inQuotes c
+isToken (structure s) = true
 
 unfoldable pub areTokens : List Token → Bool
 areTokens [] = true

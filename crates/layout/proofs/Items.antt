@@ -1,5 +1,5 @@
--- The numbers that a walk by kinds and closers finds are those of the items of the range's tokens: both step in the same way at a token
--- of content, a bracket pair and a block.
+-- The numbers that a walk by kinds and closers finds are those of the items of the range's tokens: both step in the same way at an atom,
+-- a bracket pair and a block.
 use mathlib.Core.Path.{_≡_, sym, ap, _∙_}
 use mathlib.Core.List.{List, _∷_}
 use Prim.Native.Nat.{ℕ, suc, _-_, _<_}
@@ -10,7 +10,7 @@ use Rattle.grammar.specs.Coded.{tokensFrom}
 use Rattle.nesting.specs.Paired.{Paired, done, content, bracket, block, numbersFrom}
 use Rattle.nesting.proofs.PairedItems.{numbers-done, numbers-content, numbers-bracket, numbers-block}
 use Rattle.layout.specs.Filled.{behindItem, itemNumbers}
-use Rattle.layout.proofs.Laws.{behind-content, behind-bracket, behind-block, items-end, items-step}
+use Rattle.layout.proofs.ItemWalks.{behind-content, behind-bracket, behind-block, items-end, items-step}
 
 -- The first item, with the number behind it written out.
 step : (K C : List ℕ) (i j to : ℕ) → Paired K C i to → i < to → behindItem K C i ≡ j → itemNumbers K C i to ≡ i ∷ itemNumbers K C j to

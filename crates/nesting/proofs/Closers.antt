@@ -8,11 +8,12 @@ use Prim.Native.Nat.{ℕ, suc, _+_, _≤_, _<_}
 use native.Mathlib.Omega.{arith}
 use lib.ListN.{length, getD, set, length-append, length-set}
 use lib.Seq.{getD-set-same, getD-set-other}
-use Rattle.grammar.specs.Token.{Token, symbol, number, quoted, opening, closing, semicolon, keywordLet, keywordIn, keywordEnd}
+use Rattle.grammar.specs.Open.{Open, inBracket, inDeclarations, inBody}
+use Rattle.grammar.specs.Token.{atom, structure, Token, opening, closing, semicolon, keywordLet, keywordIn, keywordEnd, Structure}
 use Rattle.grammar.specs.Outcome.{passed}
-use Rattle.grammar.specs.Nesting.{Open, inBracket, inDeclarations, inBody, Move, stays, broken, enters, becomes, leaves}
+use Rattle.grammar.specs.Nesting.{Move, stays, broken, enters, becomes, leaves}
 use Rattle.grammar.specs.Nesting.{outermost, within, move, nesting}
-use Rattle.grammar.proofs.Lists.{All}
+use Rattle.grammar.specs.Bytes.{All}
 use Rattle.grammar.proofs.Items.{AllQuiet}
 use Rattle.grammar.proofs.Nested.{Allowed, refused-passed, nesting-after, quiet-stays}
 use Rattle.nesting.specs.Pairs.{Pair, sorts, outer, innermostAt, closers}
@@ -85,11 +86,8 @@ Holds inDeclarations = ⊥
 Holds inBody = Unit {0}
 
 -- A token that is not refused with nothing open does the same in there.
-same-outermost : (o : Open) → Holds o → (t : Token) → Allowed [] (outermost t) → within o t ≡ outermost t
+same-outermost : (o : Open) → Holds o → (s : Structure) → Allowed [] (outermost s) → within o s ≡ outermost s
 unfolding outermost within
-same-outermost o h (symbol w) a = refl
-same-outermost o h (number d) a = refl
-same-outermost o h (quoted c) a = refl
 same-outermost inBracket h opening a = refl
 same-outermost inDeclarations h opening a = absurd h
 same-outermost inBody h opening a = refl
@@ -104,15 +102,13 @@ same-outermost o h keywordEnd a = absurd a
 same-move : (p : Pair) (ps inner : List Pair) → Holds (p .sort) → (t : Token) → Allowed (sorts inner) (move (sorts inner) t)
     → move (sorts (inner ++ p ∷ ps)) t ≡ move (sorts inner) t
 unfolding move sorts
-same-move p ps [] h t a = same-outermost (p .sort) h t a
-same-move p ps (q ∷ inner) h t a = refl
+same-move p ps inner h (atom a) e = refl
+same-move p ps [] h (structure s) e = same-outermost (p .sort) h s e
+same-move p ps (q ∷ inner) h (structure s) e = refl
 
 -- And what it does, it does above what is open there.
-above-outermost : (ps : List Pair) (i : ℕ) (t : Token) → pairsAfter ps i (outermost t) ≡ pairsAfter [] i (outermost t) ++ ps
+above-outermost : (ps : List Pair) (i : ℕ) (s : Structure) → pairsAfter ps i (outermost s) ≡ pairsAfter [] i (outermost s) ++ ps
 unfolding pairsAfter outermost
-above-outermost ps i (symbol w) = refl
-above-outermost ps i (number d) = refl
-above-outermost ps i (quoted c) = refl
 above-outermost ps i opening = refl
 above-outermost ps i closing = refl
 above-outermost ps i semicolon = refl
@@ -131,9 +127,10 @@ above-inner ps q inner i leaves = refl
 
 same-pairs : (ps inner : List Pair) (i : ℕ) (t : Token)
     → pairsAfter (inner ++ ps) i (move (sorts inner) t) ≡ pairsAfter inner i (move (sorts inner) t) ++ ps
-unfolding move sorts
-same-pairs ps [] i t = above-outermost ps i t
-same-pairs ps (q ∷ inner) i t = above-inner ps q inner i (within (q .sort) t)
+unfolding move sorts pairsAfter
+same-pairs ps inner i (atom a) = refl
+same-pairs ps [] i (structure s) = above-outermost ps i s
+same-pairs ps (q ∷ inner) i (structure s) = above-inner ps q inner i (within (q .sort) s)
 
 none-open : (inner : List Pair) (j : ℕ) → nesting (sorts inner) j [] ≡ passed tt → inner ≡ []
 unfolding sorts nesting
@@ -180,11 +177,8 @@ apart-after k ps i (becomes o) l h = (omega arith, apart-outer k ps h)
 apart-after k ps i leaves l h = apart-outer k ps h
 
 -- With nothing open nothing is written.
-outermost-writes : (i : ℕ) (t : Token) (C : List ℕ) → closersAfter [] i (outermost t) C ≡ C
+outermost-writes : (i : ℕ) (s : Structure) (C : List ℕ) → closersAfter [] i (outermost s) C ≡ C
 unfolding closersAfter outermost
-outermost-writes i (symbol w) C = refl
-outermost-writes i (number d) C = refl
-outermost-writes i (quoted c) C = refl
 outermost-writes i opening C = refl
 outermost-writes i closing C = refl
 outermost-writes i semicolon C = refl
@@ -203,9 +197,10 @@ inner-writes k p ps i leaves C h = getD-set-other C (p .at) k i 0 h
 
 writes-apart : (k : ℕ) (ps : List Pair) (i : ℕ) (t : Token) (C : List ℕ) → Apart k ps
     → getD (closersAfter ps i (move (sorts ps) t) C) k 0 ≡ getD C k 0
-unfolding move sorts
-writes-apart k [] i t C h = ap (λ D. getD D k 0) (outermost-writes i t C)
-writes-apart k (p ∷ ps) i t C h = inner-writes k p ps i (within (p .sort) t) C (h .0)
+unfolding move sorts closersAfter
+writes-apart k ps i (atom a) C h = refl
+writes-apart k [] i (structure s) C h = ap (λ D. getD D k 0) (outermost-writes i s C)
+writes-apart k (p ∷ ps) i (structure s) C h = inner-writes k p ps i (within (p .sort) s) C (h .0)
 
 -- At a place behind which no open pair stands nothing is written any more.
 kept : (ts : List Token) (k : ℕ) (ps : List Pair) (i : ℕ) (C : List ℕ) → nesting (sorts ps) i ts ≡ passed tt → k < i → Apart k ps
@@ -220,28 +215,29 @@ kept (t ∷ ts) k ps i C h l a =
     ∙ writes-apart k ps i t C a)
 
 -- The closer `e` of the pair opened at `k`, behind its inside.
-closer-written : (o : Open) → Holds o → (e : Token) → within o e ≡ leaves → (k : ℕ) (ps : List Pair) → Below k ps
+closer-written : (o : Open) → Holds o → (e : Structure) → within o e ≡ leaves → (k : ℕ) (ps : List Pair) → Below k ps
     → (inner rest : List Token) (i : ℕ) (C : List ℕ) → nesting [] 0 inner ≡ passed tt
-    → nesting (o ∷ sorts ps) i (inner ++ e ∷ rest) ≡ passed tt → k < i → k < length C
-    → getD (closers (record { sort = o; at = k } ∷ ps) i (inner ++ e ∷ rest) C) k 0 ≡ i + length inner
+    → nesting (o ∷ sorts ps) i (inner ++ structure e ∷ rest) ≡ passed tt → k < i → k < length C
+    → getD (closers (record { sort = o; at = k } ∷ ps) i (inner ++ structure e ∷ rest) C) k 0 ≡ i + length inner
 unfolding move sorts pairsAfter closersAfter outer innermostAt
 closer-written o v e x k ps b inner rest i C n h l r =
     let p : Pair = record { sort = o; at = k } in
-    let w = through p ps v inner (e ∷ rest) [] i 0 C n h in
+    let w = through p ps v inner (structure e ∷ rest) [] i 0 C n h in
     let j = i + length inner in
-    ap (λ D. getD D k 0) (w .same ∙ closers-step (p ∷ ps) j e rest (w .left) leaves x tt)
-    ∙ (kept rest k ps (suc j) (set (w .left) k j) (passes-after (p ∷ ps) j e rest leaves x (w .passes)) (omega arith) (apart-below k ps b)
+    ap (λ D. getD D k 0) (w .same ∙ closers-step (p ∷ ps) j (structure e) rest (w .left) leaves x tt)
+    ∙ (kept rest k ps (suc j) (set (w .left) k j) (passes-after (p ∷ ps) j (structure e) rest leaves x (w .passes))
+    (omega arith) (apart-below k ps b)
     ∙ getD-set-same (w .left) k j 0 (omega (arith, w .sized)))
 
 -- `(` and `let` that are not refused open a pair.
-opening-opens : (os : List Open) → Allowed os (move os opening) → move os opening ≡ enters inBracket
+opening-opens : (os : List Open) → Allowed os (move os (structure opening)) → move os (structure opening) ≡ enters inBracket
 unfolding move outermost within
 opening-opens [] a = refl
 opening-opens (inBracket ∷ os) a = refl
 opening-opens (inDeclarations ∷ os) a = absurd a
 opening-opens (inBody ∷ os) a = refl
 
-let-opens : (os : List Open) → Allowed os (move os keywordLet) → move os keywordLet ≡ enters inDeclarations
+let-opens : (os : List Open) → Allowed os (move os (structure keywordLet)) → move os (structure keywordLet) ≡ enters inDeclarations
 unfolding move outermost within
 let-opens [] a = refl
 let-opens (inBracket ∷ os) a = refl
@@ -277,32 +273,34 @@ quiet-passed (d ∷ ds) q k ps i rest C h =
 
 -- From `let`, number `k`, to behind its `in`, number `b`.
 declared : (ds : List Token) → AllQuiet ds → (k : ℕ) (ps : List Pair) (rest : List Token) (C : List ℕ)
-    → nesting (sorts ps) k (keywordLet ∷ ds ++ keywordIn ∷ rest) ≡ passed tt → (b : ℕ) → k + 1 + length ds ≡ b
-    → (closers ps k (keywordLet ∷ ds ++ keywordIn ∷ rest) C ≡ closers (record { sort = inBody; at = b } ∷ ps) (suc b) rest (set C k b))
+    → nesting (sorts ps) k (structure keywordLet ∷ ds ++ structure keywordIn ∷ rest) ≡ passed tt → (b : ℕ) → k + 1 + length ds ≡ b
+    → (closers ps k (structure keywordLet ∷ ds ++ structure keywordIn ∷ rest) C
+    ≡ closers (record { sort = inBody; at = b } ∷ ps) (suc b) rest (set C k b))
     × (nesting (inBody ∷ sorts ps) (suc b) rest ≡ passed tt)
 unfolding pairsAfter closersAfter sorts outer innermostAt move within
 declared ds q k ps rest C h b e =
     let p : Pair = record { sort = inDeclarations; at = k } in
     let n : suc k + length ds ≡ b = omega arith in
-    let f = entered k ps keywordLet inDeclarations (ds ++ keywordIn ∷ rest) C (let-opens (sorts ps)) h in
-    let g = quiet-passed ds q k ps (suc k) (keywordIn ∷ rest) C (f .1) in
-    let r : nesting (inDeclarations ∷ sorts ps) b (keywordIn ∷ rest) ≡ passed tt = rw n at (g .1) in (
-      f .0 ∙ (rw n at (g .0) ∙ closers-step (p ∷ ps) b keywordIn rest C (becomes inBody) refl tt),
-      passes-after (p ∷ ps) b keywordIn rest (becomes inBody) refl r,
+    let f = entered k ps (structure keywordLet) inDeclarations (ds ++ structure keywordIn ∷ rest) C (let-opens (sorts ps)) h in
+    let g = quiet-passed ds q k ps (suc k) (structure keywordIn ∷ rest) C (f .1) in
+    let r : nesting (inDeclarations ∷ sorts ps) b (structure keywordIn ∷ rest) ≡ passed tt = rw n at (g .1) in (
+      f .0 ∙ (rw n at (g .0) ∙ closers-step (p ∷ ps) b (structure keywordIn) rest C (becomes inBody) refl tt),
+      passes-after (p ∷ ps) b (structure keywordIn) rest (becomes inBody) refl r,
     )
 
 -- What is written for a bracket pair and for a block whose opener is token `k`.
 module _ (k : ℕ) (ps : List Pair) (b : Below k ps) (C : List ℕ) where
   bracket-written : (inner post : List Token) → nesting [] 0 inner ≡ passed tt
-      → nesting (sorts ps) k (opening ∷ inner ++ closing ∷ post) ≡ passed tt → k < length C
-      → getD (closers ps k (opening ∷ inner ++ closing ∷ post) C) k 0 ≡ k + 1 + length inner
+      → nesting (sorts ps) k (structure opening ∷ inner ++ structure closing ∷ post) ≡ passed tt → k < length C
+      → getD (closers ps k (structure opening ∷ inner ++ structure closing ∷ post) C) k 0 ≡ k + 1 + length inner
   unfolding within
   bracket-written inner post n h l =
-      let f = entered k ps opening inBracket (inner ++ closing ∷ post) C (opening-opens (sorts ps)) h in
+      let f = entered k ps (structure opening) inBracket (inner ++ structure closing ∷ post) C (opening-opens (sorts ps)) h in
       rw (f .0) (closer-written inBracket tt closing refl k ps b inner post (suc k) C n (f .1) (omega arith) l ∙ omega arith)
 
-  let-written : (ds rest : List Token) → AllQuiet ds → nesting (sorts ps) k (keywordLet ∷ ds ++ keywordIn ∷ rest) ≡ passed tt
-      → k < length C → getD (closers ps k (keywordLet ∷ ds ++ keywordIn ∷ rest) C) k 0 ≡ k + 1 + length ds
+  let-written : (ds rest : List Token) → AllQuiet ds
+      → nesting (sorts ps) k (structure keywordLet ∷ ds ++ structure keywordIn ∷ rest) ≡ passed tt
+      → k < length C → getD (closers ps k (structure keywordLet ∷ ds ++ structure keywordIn ∷ rest) C) k 0 ≡ k + 1 + length ds
   unfolding sorts
   let-written ds rest q h l =
       let j = k + 1 + length ds in
@@ -312,13 +310,15 @@ module _ (k : ℕ) (ps : List Pair) (b : Below k ps) (C : List ℕ) where
       ∙ getD-set-same C k j 0 l)
 
   in-written : (ds body post : List Token) → AllQuiet ds → nesting [] 0 body ≡ passed tt
-      → nesting (sorts ps) k (keywordLet ∷ ds ++ keywordIn ∷ (body ++ keywordEnd ∷ post)) ≡ passed tt → k + 1 + length ds < length C
-      → getD (closers ps k (keywordLet ∷ ds ++ keywordIn ∷ (body ++ keywordEnd ∷ post)) C) (k + 1 + length ds) 0
+      → nesting (sorts ps) k (structure keywordLet ∷ ds ++ structure keywordIn ∷ (body ++ structure keywordEnd ∷ post)) ≡ passed tt
+      → k + 1 + length ds < length C
+      → getD (closers ps k (structure keywordLet ∷ ds ++ structure keywordIn ∷ (body ++ structure keywordEnd ∷ post)) C)
+      (k + 1 + length ds) 0
       ≡ k + 1 + length ds + 1 + length body
   unfolding within
   in-written ds body post q n h l =
       let j = k + 1 + length ds in
-      let f = declared ds q k ps (body ++ keywordEnd ∷ post) C h j refl in
+      let f = declared ds q k ps (body ++ structure keywordEnd ∷ post) C h j refl in
       rw (f .0)
       (closer-written inBody tt keywordEnd refl j ps (below-later k j (omega arith) ps b) body post (suc j) (set C k j) n (f .1) (omega arith)
       (simp length-set l)
@@ -338,25 +338,27 @@ module _ (ts : List Token) (C : List ℕ) (h : nesting [] 0 ts ≡ passed tt) (r
       rw (e, r .1 .same, z) (f (r .0) (rw z at (r .2)) (r .1 .left) (rw z at (r .1 .passes)) l)
 
   -- A bracket pair's `(` has the number of its `)`.
-  pub bracket-closer : (pre inner post : List Token) → ts ≡ pre ++ (opening ∷ inner ++ closing ∷ post) → nesting [] 0 inner ≡ passed tt
+  pub bracket-closer : (pre inner post : List Token) → ts ≡ pre ++ (structure opening ∷ inner ++ structure closing ∷ post)
+      → nesting [] 0 inner ≡ passed tt
       → getD (closers [] 0 ts C) (length pre) 0 ≡ length pre + 1 + length inner
   bracket-closer pre inner post e n =
-      behind pre (opening ∷ inner ++ closing ∷ post) e (length pre) (length pre + 1 + length inner)
+      behind pre (structure opening ∷ inner ++ structure closing ∷ post) e (length pre) (length pre + 1 + length inner)
       (λ ps b D p l. bracket-written (length pre) ps b D inner post n p (omega arith))
 
   -- A block's `let` has the number of its `in`.
-  pub let-closer : (pre ds rest : List Token) → ts ≡ pre ++ (keywordLet ∷ ds ++ keywordIn ∷ rest) → AllQuiet ds
+  pub let-closer : (pre ds rest : List Token) → ts ≡ pre ++ (structure keywordLet ∷ ds ++ structure keywordIn ∷ rest) → AllQuiet ds
       → getD (closers [] 0 ts C) (length pre) 0 ≡ length pre + 1 + length ds
   let-closer pre ds rest e q =
-      behind pre (keywordLet ∷ ds ++ keywordIn ∷ rest) e (length pre) (length pre + 1 + length ds)
+      behind pre (structure keywordLet ∷ ds ++ structure keywordIn ∷ rest) e (length pre) (length pre + 1 + length ds)
       (λ ps b D p l. let-written (length pre) ps b D ds rest q p (omega arith))
 
   -- And its `in` has that of its `end`.
-  pub in-closer : (pre ds body post : List Token) → ts ≡ pre ++ (keywordLet ∷ ds ++ keywordIn ∷ (body ++ keywordEnd ∷ post))
+  pub in-closer : (pre ds body post : List Token)
+      → ts ≡ pre ++ (structure keywordLet ∷ ds ++ structure keywordIn ∷ (body ++ structure keywordEnd ∷ post))
       → AllQuiet ds → nesting [] 0 body ≡ passed tt
       → getD (closers [] 0 ts C) (length pre + 1 + length ds) 0 ≡ length pre + 1 + length ds + 1 + length body
   in-closer pre ds body post e q n =
-      behind pre (keywordLet ∷ ds ++ keywordIn ∷ (body ++ keywordEnd ∷ post)) e (length pre + 1 + length ds)
+      behind pre (structure keywordLet ∷ ds ++ structure keywordIn ∷ (body ++ structure keywordEnd ∷ post)) e (length pre + 1 + length ds)
       (length pre + 1 + length ds + 1 + length body)
       (λ ps b D p l. in-written (length pre) ps b D ds body post q n p
-      (omega (arith, length-append ds (keywordIn ∷ (body ++ keywordEnd ∷ post)))))
+      (omega (arith, length-append ds (structure keywordIn ∷ (body ++ structure keywordEnd ∷ post)))))

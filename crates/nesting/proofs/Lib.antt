@@ -1,7 +1,8 @@
+pub mod Atoms
 pub mod Moves
 pub mod Stacks
 pub mod Walks
-pub mod Laws
+pub mod TokenKinds
 pub mod Closers
 pub mod PairedTokens
 pub mod PairedItems

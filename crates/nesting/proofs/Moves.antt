@@ -1,5 +1,5 @@
 -- What a token does to what is open depends on the innermost opener alone, and the number of a move tells the move.
-use mathlib.Core.Path.{_≡_, refl, sym, ap, _∙_}
+use mathlib.Core.Path.{_≡_, refl, sym, ap}
 use mathlib.Core.Bool.{Bool, true, false}
 use mathlib.Core.List.{List, [], _∷_}
 use Prim.Native.Nat.{ℕ, zero, suc, _-_, _≤_, _<_}
@@ -7,13 +7,13 @@ use native.Mathlib.Omega.{arith}
 use lib.Dec.{eqb, ltb, lit<}
 use lib.ListN.{length}
 use borrow.Author.Tests.{eqb-true, ne-eqb, ltb-true, ltb-false}
+use Rattle.grammar.specs.Open.{Open, inBracket, inDeclarations, inBody}
 use Rattle.grammar.specs.Bytes.{Bytes}
-use Rattle.grammar.specs.Token.{Token, symbol, number, quoted, opening, closing, semicolon, keywordLet, keywordIn, keywordEnd}
-use Rattle.grammar.specs.Nesting.{Open, inBracket, inDeclarations, inBody, Move, stays, broken, enters, becomes, leaves, outermost, within, move}
+use Rattle.grammar.specs.Token.{atom, structure, Token, opening, closing, semicolon, keywordLet, keywordIn, keywordEnd, Structure}
+use Rattle.grammar.specs.Nesting.{Move, stays, broken, enters, becomes, leaves, outermost, within, move}
 use Rattle.grammar.specs.Coded.{tokenOf}
-use Rattle.grammar.proofs.Plain.{isContent}
-use Rattle.grammar.proofs.Nested.{content-stays}
 use Rattle.nesting.specs.Pairs.{sortOf, topOf, codeOf, openBy, moveCode}
+use Rattle.nesting.proofs.Atoms.{token-atom}
 
 -- What is open by the number of the innermost sort, by cases.
 pub open-cases : (P : List Open → Type 0) (top : ℕ) → (top ≡ 1 → P (inBracket ∷ [])) → (top ≡ 2 → P (inDeclarations ∷ []))
@@ -41,7 +41,7 @@ open-cases P top b d y n = one (eqb top 1) refl
     one false e = two (eqb top 2) refl
 
 -- A kind that is no other token's is `end`'s.
-pub token-end : (kind : ℕ) → ((k : ℕ) → 0 < k → k < 9 → kind ≡ k → ⊥) → tokenOf kind [] ≡ keywordEnd
+pub token-end : (kind : ℕ) → ((k : ℕ) → 0 < k → k < 9 → kind ≡ k → ⊥) → tokenOf kind [] ≡ structure keywordEnd
 unfolding tokenOf
 token-end kind h =
     rw (
@@ -59,16 +59,7 @@ token-end kind h =
     no : (k : ℕ) → 0 < k → k < 9 → eqb kind k ≡ false
     no k l m = ne-eqb kind k (h k l m)
 
--- Kinds 1, 2 and 3 are those of content.
-pub token-content : (kind : ℕ) (c : Bytes) → 1 ≤ kind → kind < 4 → isContent (tokenOf kind c) ≡ true
-unfolding tokenOf isContent
-token-content zero c l m = absurd (omega arith)
-token-content (suc zero) c l m = refl
-token-content (suc (suc zero)) c l m = refl
-token-content (suc (suc (suc zero))) c l m = refl
-token-content (suc (suc (suc (suc k)))) c l m = absurd (omega arith)
-
--- A token of any other kind has no characters of its own.
+-- A token of a kind that is no atom's has no characters of its own.
 token-bare : (kind : ℕ) (c : Bytes) → ((k : ℕ) → 0 < k → k < 4 → kind ≡ k → ⊥) → tokenOf kind c ≡ tokenOf kind []
 unfolding tokenOf
 token-bare kind c h = rw (no 1 (lit< tt) (lit< tt), no 2 (lit< tt) (lit< tt), no 3 (lit< tt) (lit< tt), tokenOf)
@@ -78,12 +69,11 @@ token-bare kind c h = rw (no 1 (lit< tt) (lit< tt), no 2 (lit< tt) (lit< tt), no
 
 -- So what a token does depends on its kind alone.
 pub move-kind : (os : List Open) (kind : ℕ) (c : Bytes) → move os (tokenOf kind c) ≡ move os (tokenOf kind [])
+unfolding move
 move-kind os kind c = decide (ltb 0 kind) (ltb kind 4) refl refl
   where
     content : 1 ≤ kind → kind < 4 → move os (tokenOf kind c) ≡ move os (tokenOf kind [])
-    content l m =
-        content-stays os (tokenOf kind c) (token-content kind c l m)
-        ∙ sym (content-stays os (tokenOf kind []) (token-content kind [] l m))
+    content l m = rw (token-atom kind c l m, token-atom kind [] l m)
 
     decide : (a b : Bool) → ltb 0 kind ≡ a → ltb kind 4 ≡ b → move os (tokenOf kind c) ≡ move os (tokenOf kind [])
     decide true true d e = content (ltb-true 0 kind d) (ltb-true kind 4 e)
@@ -97,10 +87,11 @@ move-kind os kind c = decide (ltb 0 kind) (ltb kind 4) refl refl
 -- Of what is open a move depends on the innermost alone.
 pub move-top : (os : List Open) (t : Token) → move (openBy (topOf os)) t ≡ move os t
 unfolding move openBy topOf sortOf
-move-top [] t = refl
-move-top (inBracket ∷ os) t = refl
-move-top (inDeclarations ∷ os) t = refl
-move-top (inBody ∷ os) t = refl
+move-top os (atom a) = refl
+move-top [] (structure s) = refl
+move-top (inBracket ∷ os) (structure s) = refl
+move-top (inDeclarations ∷ os) (structure s) = refl
+move-top (inBody ∷ os) (structure s) = refl
 
 -- The moves that a token can make.
 abbrev Made : Move → Type 0
@@ -114,38 +105,41 @@ Made (becomes inDeclarations) = ⊥
 Made (becomes inBody) = Unit {0}
 Made leaves = Unit {0}
 
+outermost-made : (s : Structure) → Made (outermost s)
+unfolding outermost
+outermost-made opening = tt
+outermost-made closing = tt
+outermost-made semicolon = tt
+outermost-made keywordLet = tt
+outermost-made keywordIn = tt
+outermost-made keywordEnd = tt
+
+within-made : (o : Open) (s : Structure) → Made (within o s)
+unfolding within
+within-made inBracket opening = tt
+within-made inBracket closing = tt
+within-made inBracket semicolon = tt
+within-made inBracket keywordLet = tt
+within-made inBracket keywordIn = tt
+within-made inBracket keywordEnd = tt
+within-made inDeclarations opening = tt
+within-made inDeclarations closing = tt
+within-made inDeclarations semicolon = tt
+within-made inDeclarations keywordLet = tt
+within-made inDeclarations keywordIn = tt
+within-made inDeclarations keywordEnd = tt
+within-made inBody opening = tt
+within-made inBody closing = tt
+within-made inBody semicolon = tt
+within-made inBody keywordLet = tt
+within-made inBody keywordIn = tt
+within-made inBody keywordEnd = tt
+
 move-made : (os : List Open) (t : Token) → Made (move os t)
-unfolding move outermost within
-move-made [] (symbol w) = tt
-move-made [] (number d) = tt
-move-made [] (quoted c) = tt
-move-made [] opening = tt
-move-made [] closing = tt
-move-made [] semicolon = tt
-move-made [] keywordLet = tt
-move-made [] keywordIn = tt
-move-made [] keywordEnd = tt
-move-made (o ∷ os) (symbol w) = tt
-move-made (o ∷ os) (number d) = tt
-move-made (o ∷ os) (quoted c) = tt
-move-made (inBracket ∷ os) opening = tt
-move-made (inBracket ∷ os) closing = tt
-move-made (inBracket ∷ os) semicolon = tt
-move-made (inBracket ∷ os) keywordLet = tt
-move-made (inBracket ∷ os) keywordIn = tt
-move-made (inBracket ∷ os) keywordEnd = tt
-move-made (inDeclarations ∷ os) opening = tt
-move-made (inDeclarations ∷ os) closing = tt
-move-made (inDeclarations ∷ os) semicolon = tt
-move-made (inDeclarations ∷ os) keywordLet = tt
-move-made (inDeclarations ∷ os) keywordIn = tt
-move-made (inDeclarations ∷ os) keywordEnd = tt
-move-made (inBody ∷ os) opening = tt
-move-made (inBody ∷ os) closing = tt
-move-made (inBody ∷ os) semicolon = tt
-move-made (inBody ∷ os) keywordLet = tt
-move-made (inBody ∷ os) keywordIn = tt
-move-made (inBody ∷ os) keywordEnd = tt
+unfolding move
+move-made os (atom a) = tt
+move-made [] (structure s) = outermost-made s
+move-made (o ∷ os) (structure s) = within-made o s
 
 -- Each number is that of one of them.
 unfoldable pub moveBy : ℕ → Move
@@ -195,11 +189,8 @@ moves-out (suc (suc (suc (suc zero)))) h = absurd (omega arith)
 moves-out (suc (suc (suc (suc (suc n))))) h = refl
 
 -- With nothing open nothing is closed.
-outermost-opens : (t : Token) → codeOf (outermost t) < 4
+outermost-opens : (s : Structure) → codeOf (outermost s) < 4
 unfolding outermost codeOf
-outermost-opens (symbol w) = lit< tt
-outermost-opens (number d) = lit< tt
-outermost-opens (quoted c) = lit< tt
 outermost-opens opening = lit< tt
 outermost-opens closing = lit< tt
 outermost-opens semicolon = lit< tt
@@ -207,7 +198,12 @@ outermost-opens keywordLet = lit< tt
 outermost-opens keywordIn = lit< tt
 outermost-opens keywordEnd = lit< tt
 
+opens-or-stays : (t : Token) → codeOf (move [] t) < 4
+unfolding move codeOf
+opens-or-stays (atom a) = lit< tt
+opens-or-stays (structure s) = outermost-opens s
+
 pub closes-open : (os : List Open) (kind : ℕ) → 4 ≤ moveCode (topOf os) kind → 0 < length os
-unfolding moveCode topOf openBy move
-closes-open [] kind h = absurd (omega (arith, outermost-opens (tokenOf kind [])))
+unfolding moveCode topOf openBy
+closes-open [] kind h = absurd (omega (arith, opens-or-stays (tokenOf kind [])))
 closes-open (o ∷ os) kind h = omega arith

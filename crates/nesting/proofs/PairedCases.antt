@@ -13,7 +13,7 @@ paired-ordered (content l k p) = omega arith
 paired-ordered (bracket c k w l m y p q) = omega arith
 paired-ordered (block c e k w v l m n y z f p q) = omega arith
 
--- A token of content.
+-- An atom.
 pub paired-content : {K C : List ℕ} {i to : ℕ} → Paired K C i to → i < to → getD K i 0 ≤ 3
     → IsContentKind (getD K i 0) × Paired K C (suc i) to
 paired-content done a h = absurd (omega arith)

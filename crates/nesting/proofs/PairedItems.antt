@@ -2,20 +2,45 @@
 -- The walk that finds items collects a paired range as a whole where it stands inside a bracket pair or block, so the closer that it
 -- meets next with nothing more open is the one that the range stops before.
 use mathlib.Core.Path.{_≡_, refl, ap, _∙_}
-use mathlib.Core.Bool.{Bool, true, false, true≢false}
+use mathlib.Core.Bool.{Bool, true, false}
 use mathlib.Core.List.{List, [], _∷_, _++_, append-assoc}
 use Prim.Native.Nat.{ℕ, zero, suc, _+_, _-_, _≤_, _<_}
 use native.Mathlib.Omega.{arith}
 use lib.ListN.{length, getD, length-append}
 use Rattle.grammar.specs.Bytes.{Bytes}
-use Rattle.grammar.specs.Token.{Token, symbol, number, quoted, opening, closing, semicolon, keywordLet, keywordIn, keywordEnd}
-use Rattle.grammar.specs.Declaration.{isSemicolon}
-use Rattle.grammar.specs.Span.{Item, single, pair, scope, itemTokens, opensOne, closesOne, neither, effect, item, itemsFrom, items}
+use Rattle.grammar.specs.Token.{structureNumber, atom, structure, Token, opening, closing, keywordLet, keywordIn, keywordEnd, Structure}
+use Rattle.grammar.specs.Span.{
+  Item,
+  single,
+  pair,
+  scope,
+  itemTokens,
+  opensOne,
+  closesOne,
+  neither,
+  effect,
+  item,
+  itemsFrom,
+  items,
+  InDeclarations,
+}
 use Rattle.grammar.specs.Coded.{kindOf, tokenOf, tokenAt, tokensFrom}
-use Rattle.grammar.proofs.Plain.{isContent}
-use Rattle.grammar.proofs.Items.{isQuiet, AllQuiet, content-quiet, effect-quiet, item-block, collects, outside-content, Collected, collected-none, collected-append, collected-block, collected-pair, outside-pair}
+use Rattle.grammar.proofs.Items.{
+  AllQuiet,
+  item-block,
+  collects,
+  outside-atom,
+  Collected,
+  collected-none,
+  collected-append,
+  collected-block,
+  collected-pair,
+  outside-pair,
+}
+use Rattle.grammar.proofs.Offsets.{structure-coded}
 use Rattle.nesting.specs.Paired.{IsContentKind, IsQuietKind, Paired, done, content, bracket, block, numbersFrom}
-use Rattle.nesting.proofs.Moves.{token-content}
+use Rattle.nesting.specs.Atoms.{atomAt}
+use Rattle.nesting.proofs.Atoms.{atom-at}
 
 collected-one : (t : Token) → effect t ≡ neither → Collected (t ∷ [])
 collected-one t e b d us rest = collects b d us t rest e
@@ -33,25 +58,13 @@ pair-behind b o e p q ts more rest c h =
     rw (append-assoc ts (e ∷ more) rest, outside-items b o e p q ts more c)
     (outside-items b o e p q ts (more ++ rest) c ∙ ap (λ xs. item b ts ∷ xs) h)
 
--- The token of a kind that is not content's has no characters, and the kinds among declarations are those of quiet tokens.
-token-bare : (t : Token) → isContent t ≡ false → (c : Bytes) → tokenOf (kindOf t) c ≡ t
-unfolding isContent tokenOf kindOf
-token-bare (symbol w) e c = absurd (true≢false e)
-token-bare (number d) e c = absurd (true≢false e)
-token-bare (quoted q) e c = absurd (true≢false e)
-token-bare opening e c = refl
-token-bare closing e c = refl
-token-bare semicolon e c = refl
-token-bare keywordLet e c = refl
-token-bare keywordIn e c = refl
-token-bare keywordEnd e c = refl
-
-token-quiet : (k : ℕ) (c : Bytes) → IsQuietKind k → isQuiet (tokenOf k c) ≡ true
-unfolding tokenOf isQuiet isContent isSemicolon
+-- The tokens of kinds that can stand among declarations.
+token-quiet : (k : ℕ) (c : Bytes) → IsQuietKind k → InDeclarations (tokenOf k c)
+unfolding tokenOf
 token-quiet zero c q = absurd (omega (arith, q .0))
-token-quiet (suc zero) c q = refl
-token-quiet (suc (suc zero)) c q = refl
-token-quiet (suc (suc (suc zero))) c q = refl
+token-quiet (suc zero) c q = tt
+token-quiet (suc (suc zero)) c q = tt
+token-quiet (suc (suc (suc zero))) c q = tt
 token-quiet (suc (suc (suc (suc zero)))) c q = absurd (q .2 refl)
 token-quiet (suc (suc (suc (suc (suc zero))))) c q = absurd (q .3 refl)
 token-quiet (suc (suc (suc (suc (suc (suc zero)))))) c q = refl
@@ -107,14 +120,15 @@ module _ (text : Bytes) (K S Z : List ℕ) where
       → range text K S Z i to ≡ o ∷ range text K S Z (suc i) c ++ t ∷ range text K S Z (suc c) to
   pair-range i c to l m o t d e = range-next i to (omega arith) ∙ rw (d, cut-range (suc i) c to l m t e)
 
-  -- The tokens of kinds.
-  is-token : (i : ℕ) (t : Token) → isContent t ≡ false → getD K i 0 ≡ kindOf t → tokenAt text K S Z i ≡ t
+  -- A token of structure by its kind.
+  is-structure : (i : ℕ) (s : Structure) → getD K i 0 ≡ kindOf (structure s) → tokenAt text K S Z i ≡ structure s
   unfolding tokenAt
-  is-token i t n e = rw e (token-bare t n _)
+  is-structure i s e = rw e (structure-coded s _)
 
-  is-content : (i : ℕ) → IsContentKind (getD K i 0) → isContent (tokenAt text K S Z i) ≡ true
-  unfolding tokenAt
-  is-content i k = token-content (getD K i 0) _ (k .0) (omega (arith, k .1))
+  -- A range that begins with an atom.
+  range-atom : (i to : ℕ) → i < to → IsContentKind (getD K i 0)
+      → range text K S Z i to ≡ atom (atomAt text K S Z i) ∷ range text K S Z (suc i) to
+  range-atom i to l k = range-next i to l ∙ rw (atom-at text K S Z i k)
 
   are-quiet : (n i : ℕ) → ((j : ℕ) → i ≤ j → j < i + n → IsQuietKind (getD K j 0)) → AllQuiet (tokensFrom text K S Z i n)
   unfolding tokensFrom tokenAt
@@ -127,34 +141,37 @@ module _ (text : Bytes) (K S Z : List ℕ) where
 
   -- The tokens of a bracket pair and of a block with what stands behind it.
   range-bracket : (i c to : ℕ) → i < c → c < to → getD K i 0 ≡ 4 → getD K c 0 ≡ 5
-      → range text K S Z i to ≡ opening ∷ range text K S Z (suc i) c ++ closing ∷ range text K S Z (suc c) to
-  unfolding kindOf isContent
-  range-bracket i c to l m p q = pair-range i c to l m opening closing (is-token i opening refl p) (is-token c closing refl q)
+      → range text K S Z i to ≡ structure opening ∷ range text K S Z (suc i) c ++ structure closing ∷ range text K S Z (suc c) to
+  unfolding kindOf structureNumber
+  range-bracket i c to l m p q =
+      pair-range i c to l m (structure opening) (structure closing) (is-structure i opening p) (is-structure c closing q)
 
   range-block : (i c e to : ℕ) → i < c → c < e → e < to → getD K i 0 ≡ 7 → getD K c 0 ≡ 8 → getD K e 0 ≡ 9
       → range text K S Z i to
-      ≡ keywordLet ∷ (range text K S Z (suc i) c ++ keywordIn ∷ range text K S Z (suc c) e) ++ keywordEnd ∷ range text K S Z (suc e) to
-  unfolding kindOf isContent
+      ≡ structure keywordLet ∷ (range text K S Z (suc i) c ++ structure keywordIn ∷ range text K S Z (suc c) e)
+      ++ structure keywordEnd ∷ range text K S Z (suc e) to
+  unfolding kindOf structureNumber
   range-block i c e to l m n p q r =
-      pair-range i e to (omega arith) n keywordLet keywordEnd (is-token i keywordLet refl p) (is-token e keywordEnd refl r)
-      ∙ rw (cut-range (suc i) c e l m keywordIn (is-token c keywordIn refl q))
+      pair-range i e to (omega arith) n (structure keywordLet) (structure keywordEnd)
+      (is-structure i keywordLet p) (is-structure e keywordEnd r)
+      ∙ rw (cut-range (suc i) c e l m (structure keywordIn) (is-structure c keywordIn q))
 
   -- A paired range is collected as a whole.
   pub collected-range : {C : List ℕ} {i to : ℕ} → Paired K C i to → Collected (range text K S Z i to)
   unfolding effect
   collected-range (done {to = to}) = rw (range-none to) collected-none
   collected-range (content {i = i} {to = to} l k p) =
-      rw (range-next i to l)
-      (collected-append (tokenAt text K S Z i ∷ []) (range text K S Z (suc i) to)
-      (collected-one (tokenAt text K S Z i) (effect-quiet _ (content-quiet _ (is-content i k)))) (collected-range p))
+      rw (range-atom i to l k)
+      (collected-append (atom (atomAt text K S Z i) ∷ []) (range text K S Z (suc i) to)
+      (collected-one (atom (atomAt text K S Z i)) refl) (collected-range p))
   collected-range (bracket {i = i} {to = to} c k w l m y p q) =
       rw (range-bracket i c to l m k y)
-      (collected-pair false opening closing refl refl (range text K S Z (suc i) c) (range text K S Z (suc c) to)
+      (collected-pair false (structure opening) (structure closing) refl refl (range text K S Z (suc i) c) (range text K S Z (suc c) to)
       (collected-range p) (collected-range q))
   collected-range (block {i = i} {to = to} c e k w v l m n y z f p q) =
       rw (range-block i c e to l m n k y z)
-      (collected-pair true keywordLet keywordEnd refl refl
-      (range text K S Z (suc i) c ++ keywordIn ∷ range text K S Z (suc c) e) (range text K S Z (suc e) to)
+      (collected-pair true (structure keywordLet) (structure keywordEnd) refl refl
+      (range text K S Z (suc i) c ++ structure keywordIn ∷ range text K S Z (suc c) e) (range text K S Z (suc e) to)
       (collected-block (range text K S Z (suc i) c) (range text K S Z (suc c) e) (range-quiet (suc i) c f) (collected-range p))
       (collected-range q))
 
@@ -164,15 +181,16 @@ module _ (text : Bytes) (K S Z : List ℕ) where
   unfolding items itemsFrom effect
   items-behind (done {to = to}) rest = rw (range-none to)
   items-behind (content {i = i} {to = to} l k p) rest =
-      let t = tokenAt text K S Z i in
+      let a = atomAt text K S Z i in
       let more = range text K S Z (suc i) to in
-      let c = is-content i k in
-      rw (range-next i to l, outside-content t more c) (outside-content t (more ++ rest) c ∙ ap (λ xs. single t ∷ xs) (items-behind p rest))
+      rw (range-atom i to l k, outside-atom a more)
+      (outside-atom a (more ++ rest) ∙ ap (λ xs. single a ∷ xs) (items-behind p rest))
   items-behind (bracket {i = i} {to = to} c k w l m y p q) rest =
-      rw (range-bracket i c to l m k y) (pair-behind false opening closing refl refl _ _ rest (collected-range p) (items-behind q rest))
+      rw (range-bracket i c to l m k y)
+      (pair-behind false (structure opening) (structure closing) refl refl _ _ rest (collected-range p) (items-behind q rest))
   items-behind (block {i = i} {to = to} c e k w v l m n y z f p q) rest =
       rw (range-block i c e to l m n k y z)
-      (pair-behind true keywordLet keywordEnd refl refl _ _ rest
+      (pair-behind true (structure keywordLet) (structure keywordEnd) refl refl _ _ rest
       (collected-block (range text K S Z (suc i) c) (range text K S Z (suc c) e) (range-quiet (suc i) c f) (collected-range p))
       (items-behind q rest))
 
@@ -181,12 +199,11 @@ module _ (text : Bytes) (K S Z : List ℕ) where
   unfolding items itemsFrom
   items-done to = rw (range-none to)
 
-  -- A token of content;
+  -- An atom;
   pub items-content : (i to : ℕ) → i < to → IsContentKind (getD K i 0)
-      → items (range text K S Z i to) ≡ single (tokenAt text K S Z i) ∷ items (range text K S Z (suc i) to)
+      → items (range text K S Z i to) ≡ single (atomAt text K S Z i) ∷ items (range text K S Z (suc i) to)
   unfolding items
-  items-content i to l k =
-      rw (range-next i to l) (outside-content (tokenAt text K S Z i) (range text K S Z (suc i) to) (is-content i k))
+  items-content i to l k = rw (range-atom i to l k) (outside-atom (atomAt text K S Z i) (range text K S Z (suc i) to))
 
   -- A bracket pair;
   pub items-bracket : {C : List ℕ} (i c to : ℕ) → getD K i 0 ≡ 4 → i < c → c < to → getD K c 0 ≡ 5 → Paired K C (suc i) c
@@ -194,7 +211,8 @@ module _ (text : Bytes) (K S Z : List ℕ) where
   unfolding effect item
   items-bracket i c to k l m y p =
       rw (range-bracket i c to l m k y)
-      (outside-items false opening closing refl refl (range text K S Z (suc i) c) (range text K S Z (suc c) to) (collected-range p))
+      (outside-items false (structure opening) (structure closing) refl refl
+      (range text K S Z (suc i) c) (range text K S Z (suc c) to) (collected-range p))
 
   -- A block.
   pub items-block : {C : List ℕ} (i c e to : ℕ) → getD K i 0 ≡ 7 → i < c → c < e → e < to → getD K c 0 ≡ 8 → getD K e 0 ≡ 9
@@ -207,13 +225,14 @@ module _ (text : Bytes) (K S Z : List ℕ) where
       let ts = range text K S Z (suc c) e in
       let q = range-quiet (suc i) c f in
       rw (range-block i c e to l m n k y z, ← item-block ds ts q)
-      (outside-items true keywordLet keywordEnd refl refl (ds ++ keywordIn ∷ ts) (range text K S Z (suc e) to)
+      (outside-items true (structure keywordLet) (structure keywordEnd) refl refl
+      (ds ++ structure keywordIn ∷ ts) (range text K S Z (suc e) to)
       (collected-block ds ts q (collected-range p)))
 
   -- The token behind a bracket pair and behind a block.
   pub behind-pair : (i c : ℕ) → i < c → i + length (itemTokens (pair (range text K S Z (suc i) c))) ≡ suc c
   unfolding itemTokens
-  behind-pair i c l = omega (arith, length-append (range text K S Z (suc i) c) (closing ∷ []), length-range (suc i) c)
+  behind-pair i c l = omega (arith, length-append (range text K S Z (suc i) c) (structure closing ∷ []), length-range (suc i) c)
 
   pub behind-scope :
       (i c e : ℕ) → i < c → c < e
@@ -224,8 +243,8 @@ module _ (text : Bytes) (K S Z : List ℕ) where
       let ts = range text K S Z (suc c) e in
       omega (
         arith,
-        length-append (ds ++ keywordIn ∷ ts) (keywordEnd ∷ []),
-        length-append ds (keywordIn ∷ ts),
+        length-append (ds ++ structure keywordIn ∷ ts) (structure keywordEnd ∷ []),
+        length-append ds (structure keywordIn ∷ ts),
         length-range (suc i) c,
         length-range (suc c) e,
       )

@@ -10,14 +10,28 @@ use lib.Dec.{eqb}
 use lib.ListN.{length, getD, length-append}
 use borrow.Author.Tests.{eqb-true, eqb-false}
 use Rattle.grammar.specs.Bytes.{Bytes}
-use Rattle.grammar.specs.Token.{Token, opening, closing, keywordLet, keywordIn, keywordEnd}
+use Rattle.grammar.specs.Token.{
+  structureNumber,
+  structure,
+  Token,
+  opening,
+  closing,
+  keywordLet,
+  keywordIn,
+  keywordEnd,
+  atom,
+  Atom,
+  symbol,
+  number,
+  quoted,
+}
 use Rattle.grammar.specs.Outcome.{passed}
 use Rattle.grammar.specs.Nesting.{nesting}
-use Rattle.grammar.specs.Span.{Item, single, pair, scope, itemTokens, items}
+use Rattle.grammar.specs.Span.{Item, single, pair, scope, itemTokens, items, InDeclarations, allItemTokens}
 use Rattle.grammar.specs.Coded.{kindOf, tokenOf}
-use Rattle.grammar.proofs.Plain.{isContent}
-use Rattle.grammar.proofs.Items.{isQuiet, AllQuiet, content-cases, quiet-cases}
-use Rattle.grammar.proofs.ItemsNested.{allItemTokens, ItemNested, AllNested, items-tokens, items-nested}
+use Rattle.grammar.proofs.Logic.{impossible}
+use Rattle.grammar.proofs.Items.{AllQuiet, quiet-cases}
+use Rattle.grammar.proofs.ItemsNested.{ItemNested, AllNested, items-tokens, items-nested}
 use Rattle.nesting.specs.Pairs.{tokensBy, closers}
 use Rattle.nesting.specs.Paired.{IsContentKind, IsQuietKind, Paired, done, content, bracket, block}
 use Rattle.nesting.proofs.Closers.{bracket-closer, let-closer, in-closer}
@@ -28,7 +42,7 @@ Kinds K count = (j : ℕ) → j < count → (1 ≤ getD K j 0) × (getD K j 0 �
 
 -- A kind is the kind of its token.
 kind-of-token : (k : ℕ) (c : Bytes) → 1 ≤ k → k ≤ 9 → kindOf (tokenOf k c) ≡ k
-unfolding kindOf tokenOf
+unfolding kindOf tokenOf structureNumber
 kind-of-token zero c l m = absurd (omega arith)
 kind-of-token (suc zero) c l m = refl
 kind-of-token (suc (suc zero)) c l m = refl
@@ -41,13 +55,16 @@ kind-of-token (suc (suc (suc (suc (suc (suc (suc (suc zero)))))))) c l m = refl
 kind-of-token (suc (suc (suc (suc (suc (suc (suc (suc (suc zero))))))))) c l m = refl
 kind-of-token (suc (suc (suc (suc (suc (suc (suc (suc (suc (suc k)))))))))) c l m = absurd (omega arith)
 
-content-kind : (t : Token) → isContent t ≡ true → IsContentKind (kindOf t)
+atom-kind : (a : Atom) → IsContentKind (kindOf (atom a))
 unfolding kindOf
-content-kind = content-cases (λ t. IsContentKind (kindOf t)) (λ w. omega arith) (λ d. omega arith) (λ c. omega arith)
+atom-kind (symbol w) = omega arith
+atom-kind (number d) = omega arith
+atom-kind (quoted c) = omega arith
 
-quiet-kind : (t : Token) → isQuiet t ≡ true → IsQuietKind (kindOf t)
-unfolding kindOf
-quiet-kind = quiet-cases (λ t. IsQuietKind (kindOf t)) (λ w. omega arith) (λ d. omega arith) (λ c. omega arith) (omega arith)
+quiet-kind : (t : Token) → InDeclarations t → IsQuietKind (kindOf t)
+unfolding kindOf structureNumber
+quiet-kind =
+    quiet-cases (λ t. IsQuietKind (kindOf t)) (λ a. let k = atom-kind a in omega (arith, k .0, k .1)) (omega arith)
 
 length-tokens : (K : List ℕ) (i n : ℕ) → length (tokensBy K i n) ≡ n
 unfolding tokensBy
@@ -58,9 +75,9 @@ length-tokens K i (suc n) = ap suc (length-tokens K (suc i) n)
 token-behind : (K : List ℕ) (pre : List Token) (i n : ℕ) (t : Token) (rest : List Token) → tokensBy K i n ≡ pre ++ t ∷ rest
     → (j : ℕ) → i + length pre ≡ j → (j < i + n) × (tokenOf (getD K j 0) [] ≡ t)
 unfolding tokensBy
-token-behind K [] i zero t rest e j p = let z : _≡_ {A = ℕ} 0 1 = cc in absurd (omega arith)
+token-behind K [] i zero t rest e j p = impossible cc
 token-behind K [] i (suc n) t rest e j p = let q : i ≡ j = omega arith in (omega arith, rw (← q) cc)
-token-behind K (s ∷ pre) i zero t rest e j p = let z : _≡_ {A = ℕ} 0 1 = cc in absurd (omega arith)
+token-behind K (s ∷ pre) i zero t rest e j p = impossible cc
 token-behind K (s ∷ pre) i (suc n) t rest e j p =
     let r = token-behind K pre (suc i) n t rest (cc) j (omega arith) in
     (omega (arith, r .0), r .1)
@@ -105,42 +122,56 @@ module _ (K : List ℕ) (count : ℕ) (C₀ : List ℕ) (room : count ≤ length
 
   -- A bracket pair, then what is paired behind it.
   paired-pair : (n : ℕ) → Stretch n → (us pre post : List Token) → length us ≤ n → nesting [] 0 us ≡ passed tt
-      → tokens ≡ pre ++ (opening ∷ us ++ closing ∷ post) → (i mid to : ℕ) → length pre ≡ i → i + 2 + length us ≡ mid → mid ≤ to
+      → tokens ≡ pre ++ (structure opening ∷ us ++ structure closing ∷ post) → (i mid to : ℕ) → length pre ≡ i
+      → i + 2 + length us ≡ mid → mid ≤ to
       → Paired K closed mid to → Paired K closed i to
-  unfolding kindOf
+  unfolding kindOf structureNumber
   paired-pair n f us pre post l h e i mid to p q m rest =
       let c = i + 1 + length us in
       let r : mid ≡ suc c = omega arith in
       bracket {to = to} c
-      (kind-behind pre opening (us ++ closing ∷ post) e i p)
+      (kind-behind pre (structure opening) (us ++ structure closing ∷ post) e i p)
       (rw (← p) (bracket-closer tokens C₀ nested fits pre us post e h))
       (omega arith) (omega arith)
-      (kind-behind (pre ++ opening ∷ us) closing post (e ∙ simp append-assoc) c (omega (arith, length-append pre (opening ∷ us))))
-      (f (pre ++ opening ∷ []) us (closing ∷ post) l h (e ∙ simp append-assoc) (suc i) c (omega (arith, length-append pre (opening ∷ []))) (omega arith))
+      (kind-behind (pre ++ structure opening ∷ us) (structure closing) post (e ∙ simp append-assoc) c
+      (omega (arith, length-append pre (structure opening ∷ us))))
+      (f (pre ++ structure opening ∷ []) us (structure closing ∷ post) l h (e ∙ simp append-assoc)
+      (suc i) c (omega (arith, length-append pre (structure opening ∷ []))) (omega arith))
       (rw r at rest)
 
   -- And a block.
   paired-scope : (n : ℕ) → Stretch n → (ds us pre post : List Token) → AllQuiet ds → length us ≤ n → nesting [] 0 us ≡ passed tt
-      → tokens ≡ pre ++ (keywordLet ∷ ds ++ keywordIn ∷ (us ++ keywordEnd ∷ post)) → (i mid to : ℕ) → length pre ≡ i
+      → tokens ≡ pre ++ (structure keywordLet ∷ ds ++ structure keywordIn ∷ (us ++ structure keywordEnd ∷ post))
+      → (i mid to : ℕ) → length pre ≡ i
       → i + 3 + length ds + length us ≡ mid → mid ≤ to → Paired K closed mid to → Paired K closed i to
-  unfolding kindOf
+  unfolding kindOf structureNumber
   paired-scope n f ds us pre post q l h e i mid to p o m rest =
       let c = i + 1 + length ds in
       let d = c + 1 + length us in
       let r : mid ≡ suc d = omega arith in
       block {to = to} c d
-      (kind-behind pre keywordLet (ds ++ keywordIn ∷ (us ++ keywordEnd ∷ post)) e i p)
-      (rw (← p) (let-closer tokens C₀ nested fits pre ds (us ++ keywordEnd ∷ post) e q))
+      (kind-behind pre (structure keywordLet) (ds ++ structure keywordIn ∷ (us ++ structure keywordEnd ∷ post)) e i p)
+      (rw (← p) (let-closer tokens C₀ nested fits pre ds (us ++ structure keywordEnd ∷ post) e q))
       (rw (← p) (in-closer tokens C₀ nested fits pre ds us post e q h))
       (omega arith) (omega arith) (omega arith)
-      (kind-behind (pre ++ keywordLet ∷ ds) keywordIn (us ++ keywordEnd ∷ post) (e ∙ simp append-assoc) c
-      (omega (arith, length-append pre (keywordLet ∷ ds))))
-      (kind-behind (pre ++ (keywordLet ∷ ds ++ keywordIn ∷ us)) keywordEnd post (e ∙ simp append-assoc) d
-      (omega (arith, length-append pre (keywordLet ∷ ds ++ keywordIn ∷ us), length-append ds (keywordIn ∷ us))))
-      (λ j a b. quiet-kinds ds (pre ++ keywordLet ∷ []) (keywordIn ∷ (us ++ keywordEnd ∷ post)) (e ∙ simp append-assoc) q
-      (suc i) (omega (arith, length-append pre (keywordLet ∷ []))) j (omega arith) (omega arith))
-      (f (pre ++ (keywordLet ∷ ds ++ keywordIn ∷ [])) us (keywordEnd ∷ post) l h (e ∙ simp append-assoc) (suc c) d
-      (omega (arith, length-append pre (keywordLet ∷ ds ++ keywordIn ∷ []), length-append ds (keywordIn ∷ []))) (omega arith))
+      (kind-behind (pre ++ structure keywordLet ∷ ds) (structure keywordIn) (us ++ structure keywordEnd ∷ post) (e ∙ simp append-assoc) c
+      (omega (arith, length-append pre (structure keywordLet ∷ ds))))
+      (kind-behind (pre ++ (structure keywordLet ∷ ds ++ structure keywordIn ∷ us)) (structure keywordEnd) post (e ∙ simp append-assoc) d
+      (omega (
+        arith,
+        length-append pre (structure keywordLet ∷ ds ++ structure keywordIn ∷ us),
+        length-append ds (structure keywordIn ∷ us),
+      )))
+      (λ j a b. quiet-kinds ds (pre ++ structure keywordLet ∷ []) (structure keywordIn ∷ (us ++ structure keywordEnd ∷ post))
+      (e ∙ simp append-assoc) q
+      (suc i) (omega (arith, length-append pre (structure keywordLet ∷ []))) j (omega arith) (omega arith))
+      (f (pre ++ (structure keywordLet ∷ ds ++ structure keywordIn ∷ [])) us (structure keywordEnd ∷ post) l h (e ∙ simp append-assoc)
+      (suc c) d
+      (omega (
+        arith,
+        length-append pre (structure keywordLet ∷ ds ++ structure keywordIn ∷ []),
+        length-append ds (structure keywordIn ∷ []),
+      )) (omega arith))
       (rw r at rest)
 
   -- An item with at most `n` tokens inside.
@@ -148,15 +179,15 @@ module _ (K : List ℕ) (count : ℕ) (C₀ : List ℕ) (room : count ≤ length
       → tokens ≡ pre ++ (itemTokens x ++ post) → (i mid to : ℕ) → length pre ≡ i → i + length (itemTokens x) ≡ mid → mid ≤ to
       → Paired K closed mid to → Paired K closed i to
   unfolding itemTokens
-  paired-item n f (single t) h pre post l e i mid to p q m rest =
+  paired-item n f (single a) h pre post l e i mid to p q m rest =
       let r : mid ≡ suc i = omega arith in
-      content {i = i} {to = to} (omega arith) (rw (kind-behind pre t post e i p) (content-kind t h)) (rw r at rest)
+      content {i = i} {to = to} (omega arith) (rw (kind-behind pre (atom a) post e i p) (atom-kind a)) (rw r at rest)
   paired-item n f (pair us) h pre post l e i mid to p q m rest =
-      let s = length-append us (closing ∷ []) in
+      let s = length-append us (structure closing ∷ []) in
       paired-pair n f us pre post (omega arith) (h 0) (e ∙ simp append-assoc) i mid to p (omega arith) m rest
   paired-item n f (scope ds us) h pre post l e i mid to p q m rest =
-      let s = length-append (ds ++ keywordIn ∷ us) (keywordEnd ∷ []) in
-      let r = length-append ds (keywordIn ∷ us) in
+      let s = length-append (ds ++ structure keywordIn ∷ us) (structure keywordEnd ∷ []) in
+      let r = length-append ds (structure keywordIn ∷ us) in
       paired-scope n f ds us pre post (h .0) (omega arith) (h .1 0) (e ∙ simp append-assoc) i mid to p (omega arith) m rest
 
   paired-items : (n : ℕ) → Stretch n → (xs : List Item) → AllNested xs → (pre post : List Token) → length (allItemTokens xs) ≤ suc n

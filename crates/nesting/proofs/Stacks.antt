@@ -4,9 +4,10 @@ use mathlib.Core.List.{List, [], _∷_}
 use Prim.Native.Nat.{ℕ, suc, _≤_}
 use lib.ListN.{length, set, length-set}
 use borrow.Author.Tests.{lt-ltb, le-ltb}
+use Rattle.grammar.specs.Open.{Open, deepest}
 use Rattle.grammar.specs.Token.{Token}
 use Rattle.grammar.specs.Outcome.{refused}
-use Rattle.grammar.specs.Nesting.{Open, Move, stays, broken, enters, becomes, leaves, move, closeInnermost, deepest, nesting}
+use Rattle.grammar.specs.Nesting.{Move, stays, broken, enters, becomes, leaves, move, closeInnermost, nesting}
 use Rattle.grammar.proofs.Nested.{moved, Allowed}
 use Rattle.nesting.specs.Pairs.{Pair, sorts, outer, innermostAt, closers}
 

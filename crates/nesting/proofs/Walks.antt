@@ -8,24 +8,13 @@ use native.Mathlib.Omega.{arith}
 use lib.Dec.{lit≤}
 use lib.ListN.{length, getD, set, length-set}
 use lib.Seq.{getD-set-same, getD-set-other}
+use Rattle.grammar.specs.Open.{Open, inBody}
 use Rattle.grammar.specs.Outcome.{refused, passed}
-use Rattle.grammar.specs.Nesting.{Open, inBody, Move, stays, broken, enters, becomes, leaves, move, nesting}
+use Rattle.grammar.specs.Nesting.{Move, stays, broken, enters, becomes, leaves, move, nesting}
 use Rattle.grammar.specs.Coded.{tokenOf}
 use Rattle.grammar.proofs.Nested.{Allowed, nesting-step}
 use Rattle.nesting.specs.declared.Nested.the-variants.{Passed, Refused}
-use Rattle.nesting.specs.Pairs.{
-  sortOf,
-  topOf,
-  moveCode,
-  tokensBy,
-  Pair,
-  sorts,
-  outer,
-  innermostAt,
-  closers,
-  codedNesting,
-  Pairing,
-}
+use Rattle.nesting.specs.Pairs.{sortOf, topOf, moveCode, tokensBy, Pair, sorts, outer, innermostAt, closers, codedNesting, Pairing}
 use Rattle.nesting.proofs.Moves.{moveBy, move-told, moves-in, moves-out, closes-open}
 use Rattle.nesting.proofs.Stacks.{
   pairsAfter,

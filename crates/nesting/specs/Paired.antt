@@ -5,7 +5,7 @@ use Prim.Native.Nat.{ℕ, suc, _+_, _≤_, _<_}
 use lib.ListN.{length, getD}
 use Rattle.grammar.specs.Span.{Item, itemTokens}
 
--- A token of a kind that is no structure: a word or sign, a number, a quoted name.
+-- The kinds of atoms: a word or sign, a number, a quoted name.
 abbrev pub IsContentKind : ℕ → Type 0
 IsContentKind k = (1 ≤ k) × (k ≤ 3)
 
@@ -13,8 +13,8 @@ IsContentKind k = (1 ≤ k) × (k ≤ 3)
 abbrev pub IsQuietKind : ℕ → Type 0
 IsQuietKind k = (1 ≤ k) × (k ≤ 6) × (k ≡ 4 → ⊥) × (k ≡ 5 → ⊥)
 
--- The tokens from number `i` to number `to` are items one behind the other: tokens of content, bracket pairs and blocks, with their
--- closers in `C`.
+-- The tokens from number `i` to number `to` are items one behind the other: atoms, bracket pairs and blocks, with their closers
+-- in `C`.
 pub data Paired (K C : List ℕ) : ℕ → ℕ → Type 0 where
   done : {to : ℕ} → Paired K C to to
   content : {i to : ℕ} → i < to → IsContentKind (getD K i 0) → Paired K C (suc i) to → Paired K C i to

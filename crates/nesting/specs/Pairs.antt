@@ -5,9 +5,10 @@ use mathlib.Core.List.{List, [], _∷_}
 use Prim.Native.Nat.{ℕ, zero, suc, _≤_}
 use lib.Dec.{ltb, eqb}
 use lib.ListN.{length, set, getD}
+use Rattle.grammar.specs.Open.{Open, inBracket, inDeclarations, inBody, deepest}
 use Rattle.grammar.specs.Token.{Token}
 use Rattle.grammar.specs.Outcome.{Outcome, refused, passed}
-use Rattle.grammar.specs.Nesting.{Open, inBracket, inDeclarations, inBody, Move, stays, broken, enters, becomes, leaves, move, deepest, nesting}
+use Rattle.grammar.specs.Nesting.{Move, stays, broken, enters, becomes, leaves, move, nesting}
 use Rattle.grammar.specs.Coded.{tokenOf}
 use Rattle.nesting.specs.declared.Nested.{Nested}
 use Rattle.nesting.specs.declared.Nested.the-variants.{Passed, Refused}

@@ -1,5 +1,5 @@
 pub mod Zeros
 pub mod Symbols
-pub mod Parts
+pub mod TokenPieces
 pub mod Puts
 pub mod Walks

@@ -8,25 +8,12 @@ use lib.Dec.{eqb}
 use lib.ListN.{length, length-append}
 use borrow.Author.Tests.{eq-eqb, ne-eqb}
 use Rattle.grammar.specs.Bytes.{Bytes}
-use Rattle.grammar.specs.Token.{
-  Token,
-  symbol,
-  number,
-  quoted,
-  opening,
-  closing,
-  semicolon,
-  keywordLet,
-  keywordIn,
-  keywordEnd,
-  spelling,
-  isSymbol,
-  isToken,
-}
+use Rattle.grammar.specs.Token.{Token, atom, structure, symbol, number, quoted, spelling, isSymbol, isToken}
 use Rattle.grammar.specs.Scan.{nothing, wrong, taken, front}
 use Rattle.grammar.specs.Scan as Scan
-use Rattle.grammar.specs.Coded.{kindOf}
-use Rattle.grammar.proofs.Logic.{clash}
+use Rattle.grammar.specs.Coded.{kindOf, tokenOf}
+use Rattle.grammar.proofs.Logic.{clash, impossible}
+use Rattle.grammar.proofs.Offsets.{structure-coded}
 use Rattle.grammar.proofs.Runs.{front-spelled}
 use Rattle.grammar.proofs.Taken.{Begins, Told, front-told}
 use Rattle.scan.specs.declared.tokens.Front.the-variants.{Taken}
@@ -36,7 +23,7 @@ use Rattle.scan.specs.Tokens.{codedFront}
 symbol-taken : (c : Bytes) → isSymbol c ≡ true → codedFront (front c) ≡ Taken 1 (length c)
 unfolding isToken spelling codedFront kindOf
 symbol-taken c e =
-    ap codedFront (ap front (sym (append-nil c)) ∙ front-spelled (symbol c) e [] tt)
+    ap codedFront (ap front (sym (append-nil c)) ∙ front-spelled (atom (symbol c)) e [] tt)
 
 no-rest : (w r : Bytes) → length (w ++ r) ≡ length w → w ++ r ≡ w
 no-rest w [] e = append-nil w
@@ -44,22 +31,19 @@ no-rest w (b ∷ r) e = absurd (omega (arith, length-append w (b ∷ r)))
 
 -- .. and a symbol that is taken whole is a bare name.
 whole-begins : (c : Bytes) (t : Token) → kindOf t ≡ 1 → Begins c t (length c) → isSymbol c ≡ true
-unfolding isToken spelling kindOf
-whole-begins c (symbol w) k b =
+unfolding isToken spelling kindOf tokenOf
+whole-begins c (atom (symbol w)) k b =
     ap isSymbol (b .written ∙ no-rest w (b .rest) (ap length (sym (b .written)) ∙ b .size)) ∙ b .valid
-whole-begins c (number d) k b = absurd (omega arith)
-whole-begins c (quoted d) k b = absurd (omega arith)
-whole-begins c opening k b = absurd (omega arith)
-whole-begins c closing k b = absurd (omega arith)
-whole-begins c semicolon k b = absurd (omega arith)
-whole-begins c keywordLet k b = absurd (omega arith)
-whole-begins c keywordIn k b = absurd (omega arith)
-whole-begins c keywordEnd k b = absurd (omega arith)
+whole-begins c (atom (number d)) k b = absurd (omega arith)
+whole-begins c (atom (quoted d)) k b = absurd (omega arith)
+whole-begins c (structure s) k b =
+    let e : atom (symbol []) ≡ structure s = ap (λ n. tokenOf n []) (sym k) ∙ structure-coded s [] in
+    impossible cc
 
 taken-symbol : (c : Bytes) (f : Scan.Front) → Told c f → codedFront f ≡ Taken 1 (length c) → isSymbol c ≡ true
 unfolding codedFront
-taken-symbol c nothing h e = let z : _≡_ {A = ℕ} 0 1 = cc in absurd (omega arith)
-taken-symbol c (wrong k) h e = let z : _≡_ {A = ℕ} 0 1 = cc in absurd (omega arith)
+taken-symbol c nothing h e = impossible cc
+taken-symbol c (wrong k) h e = impossible cc
 taken-symbol c (taken t n) h e =
     let k : kindOf t ≡ 1 = cc in
     let s : n ≡ length c = cc in

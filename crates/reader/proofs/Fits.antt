@@ -7,23 +7,12 @@ use native.Mathlib.Omega.{arith}
 use lib.Dec.{leb}
 use lib.ListN.{length}
 use borrow.Author.Tests.{leb-true}
+use Rattle.grammar.specs.Fault.{longestText}
 use Rattle.grammar.specs.Bytes.{Bytes}
 use Rattle.grammar.specs.Outcome.{Outcome, refused, passed}
 use Rattle.grammar.specs.Nodes.{count, wordsPerNode}
 use Rattle.grammar.specs.Answer as G
-use Rattle.grammar.specs.Answer.{
-  Reading,
-  Result,
-  longestText,
-  over,
-  readText,
-  readInto,
-  readingText,
-  canonicalizeInto,
-  writeInto,
-  rejection,
-  success,
-}
+use Rattle.grammar.specs.Answer.{Reading, Result, over, readText, readInto, readingText, canonicalizeInto, writeInto, rejection, success}
 use Rattle.grammar.proofs.Logic.{and-left}
 use Rattle.reader.specs.declared.Answer.{Answer}
 use Rattle.reader.specs.Answered.{answerOf, resultOf, Reads, Canonicalizes}

@@ -8,14 +8,14 @@ use lib.ListN.{length, drop, getD}
 use borrow.Author.Tests.{le-leb, lt-leb}
 use Rattle.grammar.specs.Bytes.{Bytes}
 use Rattle.grammar.specs.Outcome.{Outcome, refused, passed}
-use Rattle.grammar.specs.Declaration.{start}
+use Rattle.grammar.specs.Declaration.{startTable}
 use Rattle.grammar.specs.Blocks.{treeIn, treeOf}
 use Rattle.grammar.specs.Nodes.{count, words, wordsPerNode}
 use Rattle.grammar.specs.Answer as G
 use Rattle.grammar.specs.Answer.{Reading, tokensOf, offsetOf, readText, readInto, readingWords, rejection, success}
 use Rattle.grammar.proofs.ConditionsTest.{conditions-start}
 use Rattle.grammar.proofs.TextTree.{treeOf-complete}
-use Rattle.grammar.proofs.Readings.{reading-tree}
+use Rattle.grammar.proofs.Readings.{reading-checked}
 use Rattle.grammar.proofs.RoundTrip.{few-nodes}
 use Rattle.grammar.proofs.RefusalNumbers.{between-number}
 use Rattle.grammar.proofs.Answers.{read-between}
@@ -28,7 +28,6 @@ use Rattle.tree.proofs.TokenWords.{agrees-paired}
 use Rattle.tree.proofs.TreeWords.{span-words, span-flat, span-count}
 use Rattle.analysis.specs.declared.Analysis.{Analysis}
 use Rattle.analysis.specs.Analysed.{Ready, Outcomes, Analysed}
-use Rattle.reader.specs.declared.Answer.{Answer}
 use Rattle.reader.specs.Answered.{answerOf, resultOf, refusedWith, Reads}
 
 -- A text that passes checks 1 to 11 has a reading, whose tokens the arrays hold.
@@ -47,12 +46,12 @@ module _ (text : Bytes) (A : Arrays) (L R : List ℕ) (a : Analysis) (h : Analys
       go (passed r) e g = record { reading = r; reads = e; nodes = g .1; ready = g .2 }
 
   -- The tree of the tokens.
-  pub own-tree : treeIn (suc (length (tokensOf (found .reading .tokens)))) start (tokens A text 0 (a .tokens)) ≡ some (found .reading .tree)
+  pub own-tree : treeIn (suc (length (tokensOf (found .reading .tokens)))) startTable (tokens A text 0 (a .tokens)) ≡ some (found .reading .tree)
   unfolding treeOf
   own-tree =
-      ap (treeIn (suc (length (tokensOf (found .reading .tokens)))) start) (found .ready .tokens)
-      ∙ treeOf-complete start conditions-start (tokensOf (found .reading .tokens)) (found .reading .tree)
-      (reading-tree text (found .reading) (found .reads) .1)
+      ap (treeIn (suc (length (tokensOf (found .reading .tokens)))) startTable) (found .ready .tokens)
+      ∙ treeOf-complete startTable conditions-start (tokensOf (found .reading .tokens)) (found .reading .tree)
+      (reading-checked text (found .reading) (found .reads) .1)
 
 module _ (text : Bytes) (A : Arrays) (L R : List ℕ) (a : Analysis) (h : Analysed text A L R a) (N : List ℕ) where
   -- A refusal.
@@ -85,14 +84,14 @@ module _ (text : Bytes) (A : Arrays) (L R : List ℕ) (a : Analysis) (h : Analys
     own-words =
         let t = own .reading .tree in
         let k = suc (length (tokensOf (own .reading .tokens))) in
-        let f = span-flat A text L k start 0 (a .tokens) t (own .ready .agrees) (own-tree text A L R a h z) in
-        span-words A text L k start 0 (a .tokens) 0 t (own .ready .agrees) (own-tree text A L R a h z)
+        let f = span-flat A text L k startTable 0 (a .tokens) t (own .ready .agrees) (own-tree text A L R a h z) in
+        span-words A text L k startTable 0 (a .tokens) 0 t (own .ready .agrees) (own-tree text A L R a h z)
         ∙ words-offsets (λ j. getD (A .starts) j 0) (offsetOf text (own .reading .tokens)) t 0 0
         (λ j l m. own .ready .starts j (omega (arith, f)))
 
     own-count : length (spanWords A 0 (a .tokens) 0) ≡ 5 * count (own .reading .tree)
     own-count =
-        span-count A text L (suc (length (tokensOf (own .reading .tokens)))) start 0 (a .tokens) 0 (own .reading .tree)
+        span-count A text L (suc (length (tokensOf (own .reading .tokens)))) startTable 0 (a .tokens) 0 (own .reading .tree)
         (own .ready .agrees) (own-tree text A L R a h z)
 
     module _ (l : a .nodes * 5 ≤ length N) (M P F Q : List ℕ) where

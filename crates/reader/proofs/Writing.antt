@@ -7,18 +7,19 @@ use native.Mathlib.Omega.{arith}
 use lib.Dec.{leb}
 use lib.ListN.{length}
 use borrow.Author.Tests.{le-leb, lt-leb}
+use Rattle.grammar.specs.Fault.{longestText}
 use Rattle.grammar.specs.Bytes.{Bytes}
 use Rattle.grammar.specs.Token.{Token, spelling, areTokens}
 use Rattle.grammar.specs.Outcome.{Outcome, refused, passed}
-use Rattle.grammar.specs.Declaration.{start}
+use Rattle.grammar.specs.Declaration.{startTable}
 use Rattle.grammar.specs.Tree.{flat}
 use Rattle.grammar.specs.Canonical.{canonical, canonicalText, spaced, joinTokens}
 use Rattle.grammar.specs.Answer as G
-use Rattle.grammar.specs.Answer.{Reading, tokensOf, longestText, readText, readingText, canonicalizeInto, writeInto, rejection, success}
+use Rattle.grammar.specs.Answer.{Reading, tokensOf, readText, readingText, canonicalizeInto, writeInto, rejection, success}
 use Rattle.grammar.proofs.ConditionsTest.{conditions-start}
 use Rattle.grammar.proofs.Operators.{positive-start}
 use Rattle.grammar.proofs.Scanned.{scan-tokens}
-use Rattle.grammar.proofs.Readings.{reading-tree}
+use Rattle.grammar.proofs.Readings.{reading-checked}
 use Rattle.node.specs.NodeWords.{Arrays}
 use Rattle.tree.proofs.TokenWords.{agrees-paired}
 use Rattle.analysis.specs.declared.Analysis.{Analysis}
@@ -27,7 +28,6 @@ use Rattle.brackets.specs.Spare.{Matching, LeftOut}
 use Rattle.pieces.specs.Joined.{piecesFrom, spacedPieces, joinPieces}
 use Rattle.canonical.proofs.Stands.{span-stands}
 use Rattle.canonical.proofs.Kept.{pieces-canonical}
-use Rattle.reader.specs.declared.Answer.{Answer}
 use Rattle.reader.specs.Answered.{answerOf, resultOf, refusedWith, Canonicalizes}
 use Rattle.reader.proofs.Reading.{Found, found, own-tree}
 
@@ -73,15 +73,15 @@ module _ (text : Bytes) (A : Arrays) (L R : List ℕ) (a : Analysis) (h : Analys
       unfolding readingText canonicalText
       own-text =
           let r = own .reading in
-          let is = reading-tree text r (own .reads) in
-          let at = span-stands A text L R (suc (length (tokensOf (r .tokens)))) start 0 (a .tokens) (r .tree) (own .ready .agrees)
+          let is = reading-checked text r (own .reads) in
+          let at = span-stands A text L R (suc (length (tokensOf (r .tokens)))) startTable 0 (a .tokens) (r .tree) (own .ready .agrees)
           (λ j low l k. own .ready .roots j l k) (own-tree text A L R a h z) in
           let valid : areTokens (flat (r .tree)) ≡ true =
           ap areTokens (is .1 .tokens) ∙ scan-tokens _ 0 text (r .tokens) (is .0 .scanned) .0 in
           ap joinPieces
-          (pieces-canonical A text L R R′ Z′ (a .tokens) (own .ready .kinds) (own .ready .spelled) (own .ready .sized) left start conditions-start positive-start
+          (pieces-canonical A text L R R′ Z′ (a .tokens) (own .ready .kinds) (own .ready .spelled) (own .ready .sized) left startTable conditions-start positive-start
           (r .tree) (omega (arith, at .1)) (at .0) (is .1 .outer .0) (is .1 .inner) valid)
-          ∙ joined-spellings (flat (canonical start (r .tree)))
+          ∙ joined-spellings (flat (canonical startTable (r .tree)))
 
       -- The buffer, or 16,384 bytes, do not hold it.
       too-long : leb (length written) (length B) && leb (length written) longestText ≡ false → Canonicalizes text B B (refusedWith 13 0)

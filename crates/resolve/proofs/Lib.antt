@@ -1,4 +1,4 @@
 pub mod Classes
 pub mod Numbers
 pub mod SpanRoles
-pub mod Turns
+pub mod ItemLoop

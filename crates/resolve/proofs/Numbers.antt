@@ -11,13 +11,14 @@ use lib.Dec.{eqb}
 use lib.ListN.{take, drop, getD}
 use borrow.Author.Tests.{eqb-true, eqb-false}
 use Rattle.grammar.specs.Bytes.{Bytes, same}
-use Rattle.grammar.specs.Token.{symbol}
+use Rattle.grammar.specs.Token.{atom, symbol}
 use Rattle.grammar.specs.Operator.{Fixity, Prefix, Infix, Postfix, Role, Roles, role, isSome, hasRole, inForce, listed, Alive}
 use Rattle.grammar.specs.Operator as G
-use Rattle.grammar.specs.Coded.{charactersIn, tokenOf, tokenAt, roleCode, nameNumber}
+use Rattle.grammar.specs.Coded.{charactersIn, roleCode, nameNumber}
 use Rattle.grammar.specs.Span.{single}
 use Rattle.grammar.specs.Search.{symbolAt, operatorAt}
 use Rattle.grammar.proofs.Operators.{listed-in-force}
+use Rattle.nesting.specs.Atoms.{atomOf, atomAt}
 use Rattle.nesting.specs.Paired.{IsContentKind, Paired, done, content, bracket, block}
 use Rattle.table.specs.Entries.{nameIn, codedFind, operatorsFrom, tableOf, Coded}
 use Rattle.table.specs.declared.Table.{Table}
@@ -27,18 +28,7 @@ use Rattle.table.proofs.Codes.{found-role, no-role-found}
 use Rattle.table.proofs.Tables.{found-within}
 use Rattle.resolve.specs.declared.Class.{Class}
 use Rattle.resolve.specs.declared.Class.the-variants.{Name, Number, Operator, Bracket, Block}
-use Rattle.resolve.specs.Resolved.{
-  foundClass,
-  codedClass,
-  foundNumber,
-  codedNumber,
-  numberOf,
-  nameOf,
-  Column,
-  roles,
-  names,
-  numberIn,
-}
+use Rattle.resolve.specs.Resolved.{foundClass, codedClass, foundNumber, codedNumber, numberOf, nameOf, Column, roles, names, numberIn}
 use Rattle.resolve.proofs.Classes.{class-symbol, class-number, class-bracket, class-block, class-other, number-other}
 
 -- One for each column.
@@ -76,8 +66,8 @@ number-symbol f T w = go (hasRole (role T w)) refl
     go false e = rw (numberOf, operatorAt, e) (sym (ap roleCode (no-roles (role T w) e f)))
 
 -- A number or a quoted name has none.
-number-operand : (f : Fixity) (T : G.Table) (k : ℕ) (c : Bytes) → 2 ≤ k → k ≤ 3 → numberOf f T (single (tokenOf k c)) ≡ 0
-unfolding numberOf operatorAt symbolAt tokenOf
+number-operand : (f : Fixity) (T : G.Table) (k : ℕ) (c : Bytes) → 2 ≤ k → k ≤ 3 → numberOf f T (single (atomOf k c)) ≡ 0
+unfolding numberOf operatorAt symbolAt atomOf
 number-operand f T zero c l h = absurd (omega arith)
 number-operand f T (suc zero) c l h = absurd (omega arith)
 number-operand f T (suc (suc zero)) c l h = refl
@@ -112,12 +102,12 @@ force-number text name t alive =
     ap (λ b. elim b [ true ↦ 1 | false ↦ 0 ]) (sym (listed-in-force (tableOf text t) alive name))
     ∙ listed-number text name (t .starts) (t .sizes) (t .prefixes) (t .infixes) (t .postfixes) 0 (t .count)
 
--- The number of a token of content as a quoted name.
+-- The number of an atom as a quoted name.
 name-number :
     (T : G.Table) (k : ℕ) (c : Bytes) → IsContentKind k
-    → nameNumber T (tokenOf k c)
+    → nameNumber T (atom (atomOf k c))
     ≡ elim (eqb k 3) [ true ↦ elim (inForce T c) [ true ↦ 1 | false ↦ 0 ] | false ↦ 0 ]
-unfolding nameNumber tokenOf
+unfolding nameNumber atomOf
 name-number T zero c h = absurd (omega (arith, h .0))
 name-number T (suc zero) c h = refl
 name-number T (suc (suc zero)) c h = refl
@@ -143,7 +133,7 @@ module _ (text : Bytes) (K S Z C : List ℕ) (t : Table) (i : ℕ) where
     pub isContent : IsContentKind (getD K i 0)
     pub numbers :
         (col : Column)
-        → numberIn col (tableOf text t) (single (tokenAt text K S Z i)) ≡ four prefix infixRole postfix quotedName col
+        → numberIn col (tableOf text t) (single (atomAt text K S Z i)) ≡ four prefix infixRole postfix quotedName col
 
   -- What a class says of the token, of a paired range.
   abbrev pub Says : Class → Type 0
@@ -153,13 +143,13 @@ module _ (text : Bytes) (K S Z C : List ℕ) (t : Table) (i : ℕ) where
   Says (Bracket c) = (getD K i 0 ≡ 4) × (getD C i 0 ≡ c)
   Says (Block c) = (getD K i 0 ≡ 7) × (getD C i 0 ≡ c)
 
-  is-symbol : getD K i 0 ≡ 1 → tokenAt text K S Z i ≡ symbol name
-  unfolding tokenAt tokenOf charactersIn
+  is-symbol : getD K i 0 ≡ 1 → atomAt text K S Z i ≡ symbol name
+  unfolding atomAt atomOf charactersIn
   is-symbol e = rw e
 
   module _ (coded : Coded t) (alive : Alive (tableOf text t)) where
-    is-name : IsContentKind (getD K i 0) → nameOf (tableOf text t) (single (tokenAt text K S Z i)) ≡ numberAt
-    unfolding nameOf tokenAt codedNumber
+    is-name : IsContentKind (getD K i 0) → nameOf (tableOf text t) (single (atomAt text K S Z i)) ≡ numberAt
+    unfolding nameOf atomAt codedNumber
     is-name k =
         name-number (tableOf text t) (getD K i 0) _ k
         ∙ ap (λ n. elim (eqb (getD K i 0) 3) [ true ↦ n | false ↦ 0 ]) (force-number text _ t alive)
@@ -167,12 +157,12 @@ module _ (text : Bytes) (K S Z C : List ℕ) (t : Table) (i : ℕ) where
     -- Content has the numbers of its roles and its number as a quoted name.
     content-at :
         (p q s n : ℕ) → IsContentKind (getD K i 0)
-        → ((f : Fixity) → numberOf f (tableOf text t) (single (tokenAt text K S Z i)) ≡ four p q s n (roles f)) → numberAt ≡ n
+        → ((f : Fixity) → numberOf f (tableOf text t) (single (atomAt text K S Z i)) ≡ four p q s n (roles f)) → numberAt ≡ n
         → ContentAt p q s n
     unfolding numberIn
     content-at p q s n k r e = record { isContent = k; numbers = each }
       where
-        each : (col : Column) → numberIn col (tableOf text t) (single (tokenAt text K S Z i)) ≡ four p q s n col
+        each : (col : Column) → numberIn col (tableOf text t) (single (atomAt text K S Z i)) ≡ four p q s n col
         each (roles f) = r f
         each names = is-name k ∙ e
 
@@ -193,7 +183,7 @@ module _ (text : Bytes) (K S Z C : List ℕ) (t : Table) (i : ℕ) where
         refl
 
     operand-says : (n : ℕ) → 2 ≤ getD K i 0 → getD K i 0 ≤ 3 → numberAt ≡ n → ContentAt 0 0 0 n
-    unfolding tokenAt
+    unfolding atomAt
     operand-says n l h e =
         content-at 0 0 0 n (omega arith, h)
         (λ f. number-operand f (tableOf text t) (getD K i 0) _ l h ∙ elim f [ Prefix ↦ refl | Infix ↦ refl | Postfix ↦ refl ])

@@ -10,16 +10,26 @@ use Prim.Native.Nat.{ℕ, zero, suc, _+_, _≤_, _<_}
 use native.Mathlib.Omega.{arith}
 use lib.ListN.{length, getD, set, length-set}
 use lib.Seq.{getD-set-same, getD-set-other}
-use Rattle.grammar.specs.Bytes.{Bytes}
-use Rattle.grammar.specs.Token.{Token}
+use Rattle.grammar.specs.Spans.{Span}
+use Rattle.grammar.specs.Bytes.{All, Bytes}
+use Rattle.grammar.specs.Token.{Atom, Token}
 use Rattle.grammar.specs.Operator.{Table}
-use Rattle.grammar.specs.Coded.{tokenAt}
 use Rattle.grammar.specs.Span.{Item, single, pair, scope, itemTokens, items}
 use Rattle.grammar.specs.Search.{symbolAt, operatorAt}
-use Rattle.grammar.specs.Blocks.{bodyTable, Span, itemSpans, allItemSpans, spans}
-use Rattle.grammar.proofs.Lists.{All, all-append}
+use Rattle.grammar.specs.Blocks.{bodyTable, itemSpans, allItemSpans, spans}
+use Rattle.grammar.proofs.Lists.{all-append}
+use Rattle.nesting.specs.Atoms.{atomAt}
 use Rattle.nesting.specs.Paired.{Paired, done, content, bracket, block, numbersFrom}
-use Rattle.nesting.proofs.PairedItems.{behind-pair, behind-scope, range, length-range, items-done, items-content, items-bracket, items-block}
+use Rattle.nesting.proofs.PairedItems.{
+  behind-pair,
+  behind-scope,
+  range,
+  length-range,
+  items-done,
+  items-content,
+  items-bracket,
+  items-block,
+}
 use Rattle.resolve.specs.Resolved.{Column, roles, names, numberOf, nameOf, numberIn, writeItem, writeItems, writtenColumn}
 
 -- `M` is `L` but for the places from `i` to `to`.
@@ -145,14 +155,14 @@ module _ (text : Bytes) (K S Z C : List ℕ) (col : Column) where
           now : (M : List ℕ) → Agree i to M (writes k T i to L) → Agree i j M behind
           now M a p b d = a p b (omega arith) ∙ ap (λ W. getD W p 0) write-next ∙ rest .kept .outside p (inl d)
 
-  -- A token of content.
-  single-written : (k : ℕ) (T : Table) (i : ℕ) (t : Token) (L : List ℕ) → ItemWritten k T i (suc i) (single t) L
+  -- An atom.
+  single-written : (k : ℕ) (T : Table) (i : ℕ) (a : Atom) (L : List ℕ) → ItemWritten k T i (suc i) (single a) L
   unfolding writeItem itemSpans
-  single-written k T i t L =
+  single-written k T i a L =
       record {
-        kept = kept-set i (suc i) L (numberIn col T (single t)) (omega arith);
-        first = λ l. getD-set-same L i (numberIn col T (single t)) 0 l;
-        inner = λ l M a. tt;
+        kept = kept-set i (suc i) L (numberIn col T (single a)) (omega arith);
+        first = λ l. getD-set-same L i (numberIn col T (single a)) 0 l;
+        inner = λ l M h. tt;
       }
 
   -- What is inside an item, behind its opener `o`: its items' claims are those of the range at one fuel less.
@@ -216,8 +226,8 @@ module _ (text : Bytes) (K S Z C : List ℕ) (col : Column) where
   unfolding itemTokens
   range-written (done {to = to}) k T L = none-written k T to L
   range-written (content {i = i} {to = to} l n p) k T L =
-      next-written k T i (suc i) to (single (tokenAt text K S Z i)) L (items-content text K S Z i to l n) (omega arith) (omega arith) l
-      (single-written k T i (tokenAt text K S Z i) L) (range-written p k T _)
+      next-written k T i (suc i) to (single (atomAt text K S Z i)) L (items-content text K S Z i to l n) (omega arith) (omega arith) l
+      (single-written k T i (atomAt text K S Z i) L) (range-written p k T _)
   range-written (bracket {i = i} {to = to} c n w l m y p q) k T L =
       next-written k T i (suc c) to (pair (part (suc i) c)) L (items-bracket text K S Z i c to n l m y p)
       (behind-pair text K S Z i c l) (omega arith) m

@@ -7,15 +7,15 @@ use mathlib.Core.Option.{none, some}
 use Prim.Native.Nat.{ℕ, zero, suc, _+_, _-_, _≤_, _<_}
 use lib.Dec.{eqb}
 use lib.ListN.{length, take, drop, getD, set}
+use Rattle.grammar.specs.Fault.{longestText}
 use Rattle.grammar.specs.Bytes.{Bytes}
-use Rattle.grammar.specs.Token.{Token}
+use Rattle.grammar.specs.Token.{Token, atom}
 use Rattle.grammar.specs.Outcome.{Outcome, refused, passed}
 use Rattle.grammar.specs.Operator.{Fixity, Prefix, Infix, Postfix, Table, role, Distinct, Alive}
 use Rattle.grammar.specs.Coded.{roleCode, charactersIn, tokensFrom, nameNumber}
 use Rattle.grammar.specs.Span.{Item, single, pair, scope, itemTokens, items}
 use Rattle.grammar.specs.Search.{operatorAt}
-use Rattle.grammar.specs.Blocks.{bodyTable, tableBehind, checkBlocks}
-use Rattle.grammar.specs.Answer.{longestText}
+use Rattle.grammar.specs.Blocks.{bodyTable, checkBlocks}
 use Rattle.scan.specs.Tokens.{TokensFound}
 use Rattle.nesting.specs.Paired.{Paired}
 use Rattle.table.specs.Entries.{codedFind, tableOf, Sized, Coded}
@@ -62,7 +62,7 @@ numberOf f T x = elim (operatorAt T x) [ none ↦ 0 | some w ↦ roleCode (role 
 
 -- The number of a quoted name that is an operator in force; 0 for every other item.
 unfoldable pub nameOf : Table → Item → ℕ
-nameOf T (single t) = nameNumber T t
+nameOf T (single a) = nameNumber T (atom a)
 nameOf T (pair ts) = 0
 nameOf T (scope ds ts) = 0
 
@@ -78,13 +78,13 @@ numberIn names T x = nameOf T x
 -- The numbers of one column, written at the number of each item's first token; `inner` writes those of what is inside.
 module _ (col : Column) (inner : Table → ℕ → List Token → List ℕ → List ℕ) where
   unfoldable pub writeItem : Table → ℕ → Item → List ℕ → List ℕ
-  writeItem T i (single t) L = set L i (numberIn col T (single t))
+  writeItem T i (single a) L = set L i (numberIn col T (single a))
   writeItem T i (pair ts) L = inner T (suc i) ts (set L i 0)
   writeItem T i (scope ds ts) L = inner (bodyTable T ds) (suc (suc (i + length ds))) ts (set L i 0)
 
   unfoldable pub writeItems : Table → ℕ → List Item → List ℕ → List ℕ
   writeItems T i [] L = L
-  writeItems T i (x ∷ xs) L = writeItems (tableBehind T x) (i + length (itemTokens x)) xs (writeItem T i x L)
+  writeItems T i (x ∷ xs) L = writeItems T (i + length (itemTokens x)) xs (writeItem T i x L)
 
 unfoldable pub writtenColumn : Column → ℕ → Table → ℕ → List Token → List ℕ → List ℕ
 writtenColumn col zero T i ts L = L

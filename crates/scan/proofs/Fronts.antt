@@ -8,7 +8,25 @@ use lib.ListN.{length, take, drop, getD, drop-of-length-le}
 use lib.Seq.{drop-drop}
 use borrow.Author.Tests.{le-leb, lt-leb, eq-eqb, ne-eqb}
 use Rattle.grammar.specs.Bytes.{Bytes}
-use Rattle.grammar.specs.Token.{class, blank, letter, digit, sign, quote, opens, closes, separates, isBlankByte, inWord, inSign, inNumber, Token, longestName, longestNumber}
+use Rattle.grammar.specs.Token.{
+  structureNumber,
+  class,
+  blank,
+  letter,
+  digit,
+  sign,
+  quote,
+  opens,
+  closes,
+  separates,
+  isBlankByte,
+  inWord,
+  inSign,
+  inNumber,
+  Token,
+  longestName,
+  longestNumber,
+}
 use Rattle.grammar.specs.Scan.{run, keywordOrSymbol, atMost, quotedName, frontOf, front}
 use Rattle.grammar.proofs.Runs.{Kind, words, signs, numbers}
 use Rattle.scan.specs.declared.tokens.Front.the-variants.{Nothing, Wrong, Taken}
@@ -65,11 +83,11 @@ module _ (s : Bytes) (n : ℕ) where
   word-front = kind-front words goes-word s n
 
   pub sign-front : n ≡ run (goesOn sign) s → codedFront (frontOf sign s) ≡ madeOf 1 longestName n
-  unfolding kindOf
+  unfolding kindOf structureNumber
   sign-front = kind-front signs goes-sign s n
 
   pub number-front : n ≡ run (goesOn digit) s → codedFront (frontOf digit s) ≡ madeOf 2 longestNumber n
-  unfolding kindOf
+  unfolding kindOf structureNumber
   number-front = kind-front numbers goes-number s n
 
   -- A quoted name, behind its opening quote: `n` bytes that pass, and a quote.
@@ -77,7 +95,7 @@ module _ (s : Bytes) (n : ℕ) where
   closed = leb 1 n && leb n longestName && eqb (getD s n 0) 39
 
   name-taken : n ≡ run (goesOn quote) s → closed ≡ true → codedFront (quotedName s) ≡ Taken 3 (n + 2)
-  unfolding goesOn quotedName codedFront kindOf
+  unfolding goesOn quotedName codedFront kindOf structureNumber
   name-taken e h = rw (← e, quotedName, h) (ap (λ m. Taken 3 (m + 2)) (sym e))
 
   name-wrong : n ≡ run (goesOn quote) s → closed ≡ false → codedFront (quotedName s) ≡ Wrong 3

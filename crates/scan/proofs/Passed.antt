@@ -8,8 +8,12 @@ use native.Mathlib.Nat.{sub-zero}
 use native.Mathlib.Omega.{arith}
 use lib.ListN.{length, take, drop, getD, length-append, length-map, List·getD-append}
 use lib.Seq.{sets, sets-eq, getD-at, take-append-seam}
-use Rattle.grammar.specs.Bytes.{Bytes}
+use Rattle.grammar.specs.Fault.{longestText, mostTokens}
+use Rattle.grammar.specs.Bytes.{All, Bytes}
 use Rattle.grammar.specs.Token.{
+  structureNumber,
+  atom,
+  structure,
   isBlankByte,
   Token,
   symbol,
@@ -33,9 +37,9 @@ use Rattle.grammar.specs.Outcome.{Outcome, refused, passed}
 use Rattle.grammar.specs.Scan.{Placed, run, front, before, scan}
 use Rattle.grammar.specs.Scan as Scan
 use Rattle.grammar.specs.Coded.{kindOf, kindAt, startAt, sizeAt, tokenAt, tokensFrom}
-use Rattle.grammar.specs.Answer.{longestText, mostTokens, tokensOf, startsOf, offsetOf}
+use Rattle.grammar.specs.Answer.{tokensOf, startsOf, offsetOf}
 use Rattle.grammar.proofs.Logic.{and-left, and-right}
-use Rattle.grammar.proofs.Lists.{All, all-both}
+use Rattle.grammar.proofs.Lists.{all-both}
 use Rattle.grammar.proofs.Offsets.{Stands, Ascend, token-offsets, offsets-ascend, token-read, arrays-tokens}
 use Rattle.grammar.proofs.Scanned.{refused-not-passed, scan-tokens}
 use Rattle.scan.specs.declared.tokens.Scanned.{Scanned}
@@ -79,43 +83,43 @@ found-passed (suc room) at s ps h =
 -- A token has at least one byte, ..
 token-bytes : (t : Token) → isToken t ≡ true → 1 ≤ length (spelling t)
 unfolding isToken isSymbol isWord isSign isNumber spelling
-token-bytes (symbol []) e = absurd (true≢false (sym e))
-token-bytes (symbol (b ∷ w)) e = omega arith
-token-bytes (number []) e = absurd (true≢false (sym e))
-token-bytes (number (b ∷ d)) e = omega arith
-token-bytes (quoted c) e = omega arith
-token-bytes opening e = omega arith
-token-bytes closing e = omega arith
-token-bytes semicolon e = omega arith
-token-bytes keywordLet e = omega arith
-token-bytes keywordIn e = omega arith
-token-bytes keywordEnd e = omega arith
+token-bytes (atom (symbol [])) e = absurd (true≢false (sym e))
+token-bytes (atom (symbol (b ∷ w))) e = omega arith
+token-bytes (atom (number [])) e = absurd (true≢false (sym e))
+token-bytes (atom (number (b ∷ d))) e = omega arith
+token-bytes (atom (quoted c)) e = omega arith
+token-bytes (structure opening) e = omega arith
+token-bytes (structure closing) e = omega arith
+token-bytes (structure semicolon) e = omega arith
+token-bytes (structure keywordLet) e = omega arith
+token-bytes (structure keywordIn) e = omega arith
+token-bytes (structure keywordEnd) e = omega arith
 
 -- .. a quoted name two, for the quotes.
 quoted-bytes : (t : Token) → kindOf t ≡ 3 → 2 ≤ length (spelling t)
-unfolding kindOf spelling
-quoted-bytes (symbol w) e = absurd (omega arith)
-quoted-bytes (number d) e = absurd (omega arith)
-quoted-bytes (quoted c) e = omega (arith, length-append c (39 ∷ []))
-quoted-bytes opening e = absurd (omega arith)
-quoted-bytes closing e = absurd (omega arith)
-quoted-bytes semicolon e = absurd (omega arith)
-quoted-bytes keywordLet e = absurd (omega arith)
-quoted-bytes keywordIn e = absurd (omega arith)
-quoted-bytes keywordEnd e = absurd (omega arith)
+unfolding kindOf spelling structureNumber
+quoted-bytes (atom (symbol w)) e = absurd (omega arith)
+quoted-bytes (atom (number d)) e = absurd (omega arith)
+quoted-bytes (atom (quoted c)) e = omega (arith, length-append c (39 ∷ []))
+quoted-bytes (structure opening) e = absurd (omega arith)
+quoted-bytes (structure closing) e = absurd (omega arith)
+quoted-bytes (structure semicolon) e = absurd (omega arith)
+quoted-bytes (structure keywordLet) e = absurd (omega arith)
+quoted-bytes (structure keywordIn) e = absurd (omega arith)
+quoted-bytes (structure keywordEnd) e = absurd (omega arith)
 
 -- The kinds are the numbers from 1 to 9.
 kind-range : (t : Token) → (1 ≤ kindOf t) × (kindOf t ≤ 9)
-unfolding kindOf
-kind-range (symbol w) = (omega arith, omega arith)
-kind-range (number d) = (omega arith, omega arith)
-kind-range (quoted c) = (omega arith, omega arith)
-kind-range opening = (omega arith, omega arith)
-kind-range closing = (omega arith, omega arith)
-kind-range semicolon = (omega arith, omega arith)
-kind-range keywordLet = (omega arith, omega arith)
-kind-range keywordIn = (omega arith, omega arith)
-kind-range keywordEnd = (omega arith, omega arith)
+unfolding kindOf structureNumber
+kind-range (atom (symbol w)) = (omega arith, omega arith)
+kind-range (atom (number d)) = (omega arith, omega arith)
+kind-range (atom (quoted c)) = (omega arith, omega arith)
+kind-range (structure opening) = (omega arith, omega arith)
+kind-range (structure closing) = (omega arith, omega arith)
+kind-range (structure semicolon) = (omega arith, omega arith)
+kind-range (structure keywordLet) = (omega arith, omega arith)
+kind-range (structure keywordIn) = (omega arith, omega arith)
+kind-range (structure keywordEnd) = (omega arith, omega arith)
 
 all-tokens : (ps : List Placed) → areTokens (tokensOf ps) ≡ true → All (λ p. isToken (p .token) ≡ true) ps
 unfolding areTokens tokensOf

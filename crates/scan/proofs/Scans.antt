@@ -10,8 +10,11 @@ use lib.Dec.{leb}
 use lib.ListN.{length, drop, set, length-append, length-drop}
 use lib.Seq.{sets, drop-drop}
 use borrow.Author.Tests.{leb-true}
+use Rattle.grammar.specs.Fault.{mostTokens}
 use Rattle.grammar.specs.Bytes.{Bytes, every}
 use Rattle.grammar.specs.Token.{
+  atom,
+  structure,
   isBlankByte,
   inQuotes,
   Token,
@@ -38,8 +41,7 @@ use Rattle.grammar.specs.Token.{
 use Rattle.grammar.specs.Outcome.{Outcome, refused, passed}
 use Rattle.grammar.specs.Scan.{Placed, run, front, before, scan}
 use Rattle.grammar.specs.Scan as Scan
-use Rattle.grammar.specs.Answer.{mostTokens}
-use Rattle.grammar.proofs.Logic.{and-left, and-right}
+use Rattle.grammar.proofs.Logic.{and-left, and-right, impossible}
 use Rattle.grammar.proofs.Scanned.{behindBlanks, judged-first, counted-last}
 use Rattle.grammar.proofs.Taken.{Begins, Told, front-told}
 use Rattle.scan.specs.declared.tokens.Front.the-variants.{Nothing, Wrong, Taken}
@@ -55,36 +57,36 @@ use Rattle.scan.proofs.Fronts.{goes-blank}
 -- A token has at most 65 bytes: 63 and two quotes.
 token-size : (t : Token) → isToken t ≡ true → length (spelling t) ≤ 65
 unfolding isToken isSymbol spelling
-token-size (symbol w) e =
+token-size (atom (symbol w)) e =
     omega (arith, leb-true (length w) longestName (and-right ((isWord w || isSign w) && not (isKeyword w)) (leb (length w) longestName) e))
-token-size (number d) e = omega (arith, leb-true (length d) longestNumber (and-right (isNumber d) (leb (length d) longestNumber) e))
-token-size (quoted c) e =
+token-size (atom (number d)) e = omega (arith, leb-true (length d) longestNumber (and-right (isNumber d) (leb (length d) longestNumber) e))
+token-size (atom (quoted c)) e =
     let h = and-left (leb 1 (length c) && leb (length c) longestName) (every inQuotes c) e in
     omega (arith, leb-true (length c) longestName (and-right (leb 1 (length c)) (leb (length c) longestName) h), length-append c (39 ∷ []))
-token-size opening e = omega arith
-token-size closing e = omega arith
-token-size semicolon e = omega arith
-token-size keywordLet e = omega arith
-token-size keywordIn e = omega arith
-token-size keywordEnd e = omega arith
+token-size (structure opening) e = omega arith
+token-size (structure closing) e = omega arith
+token-size (structure semicolon) e = omega arith
+token-size (structure keywordLet) e = omega arith
+token-size (structure keywordIn) e = omega arith
+token-size (structure keywordEnd) e = omega arith
 
 -- What the code's answer tells of the front of a text.
 coded-nothing : (f : Scan.Front) → codedFront f ≡ Nothing → f ≡ Scan.nothing
 unfolding codedFront
 coded-nothing Scan.nothing e = refl
-coded-nothing (Scan.wrong k) e = let z : _≡_ {A = ℕ} 0 1 = cc in absurd (omega arith)
-coded-nothing (Scan.taken t m) e = let z : _≡_ {A = ℕ} 0 1 = cc in absurd (omega arith)
+coded-nothing (Scan.wrong k) e = impossible cc
+coded-nothing (Scan.taken t m) e = impossible cc
 
 coded-wrong : (f : Scan.Front) (k : ℕ) → codedFront f ≡ Wrong k → f ≡ Scan.wrong k
 unfolding codedFront
-coded-wrong Scan.nothing k e = let z : _≡_ {A = ℕ} 0 1 = cc in absurd (omega arith)
+coded-wrong Scan.nothing k e = impossible cc
 coded-wrong (Scan.wrong j) k e = cc
-coded-wrong (Scan.taken t m) k e = let z : _≡_ {A = ℕ} 0 1 = cc in absurd (omega arith)
+coded-wrong (Scan.taken t m) k e = impossible cc
 
 coded-taken : (f : Scan.Front) (k m : ℕ) → codedFront f ≡ Taken k m → (t : Token) × (f ≡ Scan.taken t m) × (kindOf t ≡ k)
 unfolding codedFront
-coded-taken Scan.nothing k m e = let z : _≡_ {A = ℕ} 0 1 = cc in absurd (omega arith)
-coded-taken (Scan.wrong j) k m e = let z : _≡_ {A = ℕ} 0 1 = cc in absurd (omega arith)
+coded-taken Scan.nothing k m e = impossible cc
+coded-taken (Scan.wrong j) k m e = impossible cc
 coded-taken (Scan.taken t j) k m e = (t, ap (Scan.taken t) (cc), cc)
 
 -- A token that the code takes has at most 65 bytes.

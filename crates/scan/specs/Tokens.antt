@@ -6,13 +6,13 @@ use Prim.Native.Nat.{ℕ, zero, suc, _+_, _≤_, _<_}
 use lib.Dec.{leb}
 use lib.ListN.{length, drop, getD}
 use lib.Seq.{sets}
+use Rattle.grammar.specs.Fault.{longestText, mostTokens}
 use Rattle.grammar.specs.Bytes.{Bytes}
 use Rattle.grammar.specs.Token.{isBlankByte}
 use Rattle.grammar.specs.Outcome.{Outcome, refused, passed}
 use Rattle.grammar.specs.Scan.{Placed, run, front, scan}
 use Rattle.grammar.specs.Scan as Scan
 use Rattle.grammar.specs.Coded.{kindOf, tokenAt, kindAt, startAt, sizeAt}
-use Rattle.grammar.specs.Answer.{longestText, mostTokens}
 use Rattle.scan.specs.declared.tokens.Front.{Front}
 use Rattle.scan.specs.declared.tokens.Front.the-variants.{Nothing, Wrong, Taken}
 use Rattle.scan.specs.declared.tokens.Scanned.{Scanned}

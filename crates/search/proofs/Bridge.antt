@@ -1,8 +1,8 @@
 -- The search over slots finds what the search over items finds: the root at the same place, and a tree where there is one, with
--- the number of its root's role. Items are taken to be operators or operands; a role's number is never that of no tree, since it
+-- the number of its root's role. Each item is an operator or an operand; a role's number is never that of no tree, since it
 -- leaves 1, 2 or 3 when divided by 4.
-use mathlib.Core.Path.{_≡_, refl, sym, ap, ap₂, _∙_, subst}
-use mathlib.Core.Bool.{Bool, true, false, _||_, not}
+use mathlib.Core.Path.{_≡_, refl, sym, ap, ap₂, _∙_}
+use mathlib.Core.Bool.{Bool, true, false, not}
 use mathlib.Core.Logic.{_⊎_, inl, inr, ⊎-elim, _↔_}
 use mathlib.Core.List.{List, [], _∷_, map}
 use mathlib.Core.Option.{Option, none, some}
@@ -12,12 +12,14 @@ use lib.Dec.{ltb, eqb}
 use lib.ListN.{length, length-map}
 use borrow.Author.Tests.{le-leb, lt-leb, lt-ltb, eq-eqb, ne-eqb}
 use Rattle.grammar.specs.Bytes.{Bytes, isEmpty}
-use Rattle.grammar.specs.Operator.{Role, Roles, Table, role}
+use Rattle.grammar.specs.Token.{symbol, number, quoted}
+use Rattle.grammar.specs.Operator.{Table, role, hasRole, inForce}
 use Rattle.grammar.specs.Coded.{roleCode}
-use Rattle.grammar.specs.Span.{Item}
-use Rattle.grammar.specs.SpanTree.{SpanTree, apply, present, fixityBy, fixity, root, admitsBoth, isOperand}
+use Rattle.grammar.specs.Span.{Item, single, pair, scope}
+use Rattle.grammar.specs.SpanTree.{SpanTree, present, fixityBy, fixity, root, admitsBoth, isOperand, roleOver, roleOfFixity, isOperandAtom}
 use Rattle.grammar.specs.Search.{
   precedence,
+  symbolAt,
   operatorAt,
   operatorOf,
   precedenceAt,
@@ -34,39 +36,14 @@ use Rattle.grammar.specs.Search.{
   partTree,
   treeOfSpan,
 }
-use Rattle.grammar.proofs.Logic.{either, clash}
-use Rattle.grammar.proofs.Lists.{All, all-left, all-right}
+use Rattle.grammar.proofs.Logic.{impossible}
 use Rattle.grammar.proofs.SpanRoot.{present-yield}
 use Rattle.grammar.proofs.SpanSearch.{partTree-sound}
-use Rattle.search.specs.Slots.{
-  Slot,
-  operatorSlot,
-  slotOf,
-  rootSlot,
-  roleIn,
-  joinedCode,
-  overParts,
-  partAt,
-  partIn,
-  partCode,
-  noTree,
-}
-use Rattle.search.proofs.Roles.{admits-none, joined-not-left}
-use Rattle.search.proofs.Parts.{code-enough, over-left, over-right, over-both}
+use Rattle.search.specs.Slots.{Slot, operatorSlot, slotOf, rootSlot, roleIn, joinedCode, overParts, partAt, partIn, partCode, noTree}
+use Rattle.search.proofs.SlotTrees.{code-enough, over-left, over-right, over-both}
 use Rattle.search.proofs.PartRanges.{ltb-same}
 use Rattle.search.proofs.ItemSlots.{code-tree, admits-coded}
-use Rattle.search.proofs.ItemRoots.{
-  Cut,
-  Cuts,
-  root-cuts,
-  place,
-  root-place,
-  cut-below,
-  cut-size,
-  cut-slot,
-  cut-before,
-  cut-after,
-}
+use Rattle.search.proofs.ItemRoots.{Cut, Cuts, root-cuts, place, root-place, cut-below, cut-size, cut-slot, cut-before, cut-after}
 
 -- The root: none exactly where its place is the end, else where the items before it end.
 pub root-slots-some :
@@ -84,11 +61,17 @@ root-slots T is = (λ e. root-place T is ∙ ap (place 0 (length is)) e, go (roo
         absurd (omega arith)
 
 -- Every item is an operator or an operand.
-abbrev pub Known : Table → Item → Type 0
-Known T x = operatorAt T x ≡ none → isOperand T x ≡ true
-
-abbrev pub AllKnown : Table → List Item → Type 0
-AllKnown T is = All (Known T) is
+operand-else : (T : Table) (x : Item) → operatorAt T x ≡ none → isOperand T x ≡ true
+unfolding operatorAt symbolAt isOperand isOperandAtom inForce
+operand-else T (single (symbol w)) e = go (hasRole (role T w)) refl
+  where
+    go : (b : Bool) → hasRole (role T w) ≡ b → not (hasRole (role T w)) ≡ true
+    go true f = let z : some w ≡ none = rw (f, operatorAt) at e in impossible cc
+    go false f = rw f
+operand-else T (single (number d)) e = refl
+operand-else T (single (quoted c)) e = refl
+operand-else T (pair ts) e = refl
+operand-else T (scope ds ts) e = refl
 
 -- The number that stands for what the search over items finds.
 abbrev pub treeCode : Table → Option SpanTree → ℕ
@@ -100,77 +83,29 @@ tree-code-none T none e = refl
 tree-code-none T (some s) e = absurd (code-tree (root T s) e)
 
 -- The role in use.
-role-used : (R : Roles) (b a : Bool) → b || a ≡ true → roleIn (operatorSlot R) b a ≡ roleCode (R (fixityBy b a))
-unfolding roleIn operatorSlot fixityBy
-role-used R true true e = refl
-role-used R true false e = refl
-role-used R false true e = refl
-role-used R false false e = absurd (clash e refl)
-
-role-unused : (x : Slot) (b a : Bool) → b || a ≡ false → roleIn x b a ≡ 0
-unfolding roleIn
-role-unused x true a e = absurd (clash refl e)
-role-unused x false true e = absurd (clash refl e)
-role-unused x false false e = refl
+role-used : (T : Table) (m : Bytes) (b a : Bool) → roleIn (operatorSlot (role T m)) b a ≡ roleCode (roleOfFixity T m (fixityBy b a))
+unfolding roleIn operatorSlot fixityBy roleOfFixity roleCode
+role-used T m true true = refl
+role-used T m true false = refl
+role-used T m false true = refl
+role-used T m false false = refl
 
 -- An operator over two trees.
 module _ (T : Table) (l : SpanTree) (m : Bytes) (r : SpanTree) where
-  none-between : (present l || present r) ≡ false → joined T (some l) m (some r) ≡ none
-  unfolding joined
-  none-between e = rw (e, joined)
-
-  both-found :
-      admitsBoth (role T m (fixity l r)) (root T l) (root T r) ≡ true → (present l || present r) ≡ true
-      → joined T (some l) m (some r) ≡ some (apply l m r)
-  unfolding joined
-  both-found f e = rw (e, f, joined)
-
-  both-refused : admitsBoth (role T m (fixity l r)) (root T l) (root T r) ≡ false → joined T (some l) m (some r) ≡ none
-  unfolding joined
-  both-refused f = go (present l || present r) refl
-    where
-      go : (b : Bool) → (present l || present r) ≡ b → joined T (some l) m (some r) ≡ none
-      go true e = rw (e, f, joined)
-      go false e = rw (e, joined)
-
-  -- In the role `o`.
   role-code :
-      (o : Option Role) (t : Bool) → admitsBoth o (root T l) (root T r) ≡ t
-      → joinedCode (roleCode o) (roleCode (root T l)) (roleCode (root T r)) ≡ elim t [ true ↦ roleCode o | false ↦ noTree ]
-  unfolding joinedCode
-  role-code o true f = rw (admits-coded o (root T l) (root T r) ∙ f, joinedCode)
-  role-code o false f = rw (admits-coded o (root T l) (root T r) ∙ f, joinedCode)
-
-  found-code :
-      (t : Bool) → admitsBoth (role T m (fixity l r)) (root T l) (root T r) ≡ t → (present l || present r) ≡ true
-      → elim t [ true ↦ roleCode (role T m (fixity l r)) | false ↦ noTree ] ≡ treeCode T (joined T (some l) m (some r))
-  unfolding root
-  found-code true f e = sym (ap (treeCode T) (both-found f e))
-  found-code false f e = sym (ap (treeCode T) (both-refused f))
-
-  used-code :
-      (present l || present r) ≡ true
-      → joinedCode (roleIn (operatorSlot (role T m)) (present l) (present r)) (roleCode (root T l)) (roleCode (root T r))
-      ≡ treeCode T (joined T (some l) m (some r))
-  unfolding fixity
-  used-code e =
-      ap (λ c. joinedCode c (roleCode (root T l)) (roleCode (root T r))) (role-used (role T m) (present l) (present r) e)
-      ∙ role-code (role T m (fixity l r)) (admitsBoth (role T m (fixity l r)) (root T l) (root T r)) refl
-      ∙ found-code (admitsBoth (role T m (fixity l r)) (root T l) (root T r)) refl e
-
-  unused-code :
-      (present l || present r) ≡ false
-      → joinedCode (roleIn (operatorSlot (role T m)) (present l) (present r)) (roleCode (root T l)) (roleCode (root T r))
-      ≡ treeCode T (joined T (some l) m (some r))
-  unused-code e =
-      ap (λ c. joinedCode c (roleCode (root T l)) (roleCode (root T r))) (role-unused (operatorSlot (role T m)) (present l) (present r) e)
-      ∙ joined-not-left 0 (roleCode (root T l)) (roleCode (root T r)) (admits-none false 0 (roleCode (root T l)) refl)
-      ∙ sym (ap (treeCode T) (none-between e))
+      (t : Bool) → admitsBoth (roleOver T l m r) (root T l) (root T r) ≡ t
+      → joinedCode (roleCode (roleOver T l m r)) (roleCode (root T l)) (roleCode (root T r)) ≡ treeCode T (joined T (some l) m (some r))
+  unfolding joinedCode joined root
+  role-code true f = rw (admits-coded (roleOver T l m r) (root T l) (root T r) ∙ f, joinedCode, f, joined)
+  role-code false f = rw (admits-coded (roleOver T l m r) (root T l) (root T r) ∙ f, joinedCode, f, joined)
 
   both-code :
       joinedCode (roleIn (operatorSlot (role T m)) (present l) (present r)) (roleCode (root T l)) (roleCode (root T r))
       ≡ treeCode T (joined T (some l) m (some r))
-  both-code = ⊎-elim used-code unused-code (either (present l || present r))
+  unfolding roleOver fixity
+  both-code =
+      ap (λ c. joinedCode c (roleCode (root T l)) (roleCode (root T r))) (role-used T m (present l) (present r))
+      ∙ role-code (admitsBoth (roleOver T l m r) (root T l) (root T r)) refl
 
 over-code :
     (T : Table) (m : Bytes) (a b : Option SpanTree) (before after : Bool) → ((l : SpanTree) → a ≡ some l → present l ≡ before)
@@ -227,11 +162,11 @@ alone T x e = go (operatorAt T x) refl
 
 -- One item without a root is an operand, which has no role; more items without one have no tree.
 lone-code :
-    (T : Table) (x : Item) (is : List Item) → AllKnown T (x ∷ is) → rootOf T (x ∷ is) ≡ none
+    (T : Table) (x : Item) (is : List Item) → rootOf T (x ∷ is) ≡ none
     → elim (eqb (length (x ∷ is)) 1) [ true ↦ 0 | false ↦ noTree ] ≡ treeCode T (lone T x is)
 unfolding lone isEmpty root roleCode
-lone-code T x [] known e = rw (known .0 (alone T x e), lone)
-lone-code T x (y ∷ is) known e = rw (ne-eqb (length (x ∷ y ∷ is)) 1 (omega arith))
+lone-code T x [] e = rw (operand-else T x (alone T x e), lone)
+lone-code T x (y ∷ is) e = rw (ne-eqb (length (x ∷ y ∷ is)) 1 (omega arith))
 
 -- One step over the slots of items.
 module _ (f : List Slot → ℕ) (T : Table) (is : List Item) where
@@ -280,24 +215,23 @@ module _ (f : List Slot → ℕ) (T : Table) (is : List Item) where
 
 -- The tree of a part, with enough fuel.
 pub part-code :
-    (k : ℕ) (T : Table) (is : List Item) → length is < k → AllKnown T is → partIn k (map (slotOf T) is) ≡ treeCode T (partTree k T is)
+    (k : ℕ) (T : Table) (is : List Item) → length is < k → partIn k (map (slotOf T) is) ≡ treeCode T (partTree k T is)
 unfolding partIn partTree root roleCode
-part-code zero T is h known = absurd (omega arith)
-part-code (suc k) T [] h known = refl
-part-code (suc k) T (x ∷ is) h known = go (rootOf T (x ∷ is)) refl (root-cuts T (x ∷ is)) (part-code k T)
+part-code zero T is h = absurd (omega arith)
+part-code (suc k) T [] h = refl
+part-code (suc k) T (x ∷ is) h = go (rootOf T (x ∷ is)) refl (root-cuts T (x ∷ is)) (part-code k T)
   where
     go :
         (o : Option Split) → rootOf T (x ∷ is) ≡ o → Cuts T (x ∷ is) o
-        → ((js : List Item) → length js < k → AllKnown T js → partIn k (map (slotOf T) js) ≡ treeCode T (partTree k T js))
+        → ((js : List Item) → length js < k → partIn k (map (slotOf T) js) ≡ treeCode T (partTree k T js))
         → partIn (suc k) (map (slotOf T) (x ∷ is)) ≡ treeCode T (partTree (suc k) T (x ∷ is))
-    go none e c ih = step-none (partIn k) T (x ∷ is) e ∙ rw (e, partTree) (lone-code T x is known e)
+    go none e c ih = step-none (partIn k) T (x ∷ is) e ∙ rw (e, partTree) (lone-code T x is e)
     go (some s) e c ih =
         let size = cut-size T (x ∷ is) s c in
-        let parts = subst (AllKnown T) (c .splits) known in
         step-some (partIn k) T (x ∷ is) s e c
         ∙ rw (
-          ih (s .before) (omega arith) (all-left (Known T) (s .before) (c .item ∷ s .after) parts),
-          ih (s .after) (omega arith) (all-right (Known T) (s .before) (c .item ∷ s .after) parts .1),
+          ih (s .before) (omega arith),
+          ih (s .after) (omega arith),
           e,
           partTree,
         )
@@ -309,23 +243,23 @@ part-code (suc k) T (x ∷ is) h known = go (rootOf T (x ∷ is)) refl (root-cut
 
 -- There is a tree exactly where the number is not that of no tree, and then it is that of its root's role (0 for none).
 pub part-slots :
-    (k : ℕ) (T : Table) (is : List Item) → length is < k → AllKnown T is
+    (k : ℕ) (T : Table) (is : List Item) → length is < k
     → (partTree k T is ≡ none) ↔ (partIn k (map (slotOf T) is) ≡ noTree)
-part-slots k T is h known =
-    (λ e. part-code k T is h known ∙ ap (treeCode T) e, λ e. tree-code-none T (partTree k T is) (sym (part-code k T is h known) ∙ e))
+part-slots k T is h =
+    (λ e. part-code k T is h ∙ ap (treeCode T) e, λ e. tree-code-none T (partTree k T is) (sym (part-code k T is h) ∙ e))
 
 pub part-slots-some :
-    (k : ℕ) (T : Table) (is : List Item) → length is < k → AllKnown T is
+    (k : ℕ) (T : Table) (is : List Item) → length is < k
     → (s : SpanTree) → partTree k T is ≡ some s → partIn k (map (slotOf T) is) ≡ roleCode (root T s)
-part-slots-some k T is h known s e = part-code k T is h known ∙ ap (treeCode T) e
+part-slots-some k T is h s e = part-code k T is h ∙ ap (treeCode T) e
 
 -- A span has no tree exactly where it is empty or its number is that of no tree.
 pub span-slots :
-    (T : Table) (is : List Item) → AllKnown T is → (treeOfSpan T is ≡ none) ↔ ((is ≡ []) ⊎ (partCode (map (slotOf T) is) ≡ noTree))
+    (T : Table) (is : List Item) → (treeOfSpan T is ≡ none) ↔ ((is ≡ []) ⊎ (partCode (map (slotOf T) is) ≡ noTree))
 unfolding treeOfSpan
-span-slots T [] known = (λ e. inl refl, λ e. refl)
-span-slots T (x ∷ is) known =
-    let found = part-slots (suc (length (x ∷ is))) T (x ∷ is) (omega arith) known in
+span-slots T [] = (λ e. inl refl, λ e. refl)
+span-slots T (x ∷ is) =
+    let found = part-slots (suc (length (x ∷ is))) T (x ∷ is) (omega arith) in
     let size = length-map (x ∷ is) (slotOf T) in
     let code = code-enough (suc (length (x ∷ is))) (map (slotOf T) (x ∷ is)) (omega arith) in
     (λ e. inr (sym code ∙ found .0 e), ⊎-elim (λ e. never e) (λ e. found .1 (code ∙ e)))

@@ -21,7 +21,7 @@ use Rattle.grammar.specs.Search.{
   operatorOf,
   widest,
   Split,
-  behind,
+  shifted,
   firstOf,
   lastHere,
   lastOf,
@@ -29,18 +29,7 @@ use Rattle.grammar.specs.Search.{
   rootIn,
   rootOf,
 }
-use Rattle.search.specs.Slots.{
-  slot,
-  operatorSlot,
-  slotOf,
-  slotAt,
-  firstSlot,
-  lastSlot,
-  couldBeRightAt,
-  rightAt,
-  rootAt,
-  rootSlot,
-}
+use Rattle.search.specs.Slots.{slot, operatorSlot, slotOf, slotAt, firstSlot, lastSlot, couldBeRightAt, rightAt, rootAt, rootSlot}
 use Rattle.search.proofs.ItemSlots.{role-coded, isThere, slot-operator, of-item, widest-items}
 
 -- An operator among items: the item that it is, and that the items are those before it, it, and those after it.
@@ -55,10 +44,10 @@ Cuts T is none = Unit {0}
 Cuts T is (some s) = Cut T is s
 
 module _ (T : Table) where
-  behind-cuts : (x : Item) (is : List Item) (o : Option Split) → Cuts T is o → Cuts T (x ∷ is) (behind x o)
-  unfolding behind
-  behind-cuts x is none c = tt
-  behind-cuts x is (some s) c = record { item = c .item; splits = ap (λ ys. x ∷ ys) (c .splits); known = c .known }
+  shifted-cuts : (x : Item) (is : List Item) (o : Option Split) → Cuts T is o → Cuts T (x ∷ is) (shifted x o)
+  unfolding shifted
+  shifted-cuts x is none c = tt
+  shifted-cuts x is (some s) c = record { item = c .item; splits = ap (λ ys. x ∷ ys) (c .splits); known = c .known }
 
   module _ (p : ℕ) where
     operator-at : (x : Item) (m : Bytes) → operatorOf T p x ≡ some m → operatorAt T x ≡ some m
@@ -81,10 +70,10 @@ module _ (T : Table) where
     first-cuts : (is : List Item) → Cuts T is (firstOf T p is)
     unfolding firstOf
     first-cuts [] = tt
-    first-cuts (x ∷ is) = go (operatorOf T p x) refl (behind-cuts x is (firstOf T p is) (first-cuts is))
+    first-cuts (x ∷ is) = go (operatorOf T p x) refl (shifted-cuts x is (firstOf T p is) (first-cuts is))
       where
         go :
-            (o : Option Bytes) → operatorOf T p x ≡ o → Cuts T (x ∷ is) (behind x (firstOf T p is))
+            (o : Option Bytes) → operatorOf T p x ≡ o → Cuts T (x ∷ is) (shifted x (firstOf T p is))
             → Cuts T (x ∷ is) (firstOf T p (x ∷ is))
         go none e h = rw (e, firstOf) h
         go (some m) e h = rw (e, firstOf) (front-cut x is m e)
@@ -100,17 +89,17 @@ module _ (T : Table) where
 
         go : (o : Option Split) → Cuts T is o → Cuts T (x ∷ is) (lastHere T p x is o)
         go none h = here (operatorOf T p x) refl
-        go (some s) h = behind-cuts x is (some s) h
+        go (some s) h = shifted-cuts x is (some s) h
 
 -- The place of what was found, where the items begin at `i`; `stop` where nothing was.
 abbrev pub place : ℕ → ℕ → Option Split → ℕ
 place i stop none = stop
 place i stop (some s) = i + length (s .before)
 
-behind-place : (x : Item) (i stop : ℕ) (o : Option Split) → place (suc i) stop o ≡ place i stop (behind x o)
-unfolding behind
-behind-place x i stop none = refl
-behind-place x i stop (some s) = omega arith
+shifted-place : (x : Item) (i stop : ℕ) (o : Option Split) → place (suc i) stop o ≡ place i stop (shifted x o)
+unfolding shifted
+shifted-place x i stop none = refl
+shifted-place x i stop (some s) = omega arith
 
 module _ (T : Table) (p : ℕ) where
   first-place : (is : List Item) (i stop : ℕ) → firstSlot p i stop (map (slotOf T) is) ≡ place i stop (firstOf T p is)
@@ -121,7 +110,7 @@ module _ (T : Table) (p : ℕ) where
       go :
           (o : Option Bytes) → operatorOf T p x ≡ o → firstSlot p (suc i) stop (map (slotOf T) is) ≡ place (suc i) stop (firstOf T p is)
           → firstSlot p i stop (slotOf T x ∷ map (slotOf T) is) ≡ place i stop (firstOf T p (x ∷ is))
-      go none e ih = rw (of-item T p x ∙ ap isThere e, firstSlot, e, firstOf) (ih ∙ behind-place x i stop (firstOf T p is))
+      go none e ih = rw (of-item T p x ∙ ap isThere e, firstSlot, e, firstOf) (ih ∙ shifted-place x i stop (firstOf T p is))
       go (some m) e ih = rw (of-item T p x ∙ ap isThere e, firstSlot, e, firstOf) (sym (add-zero i))
 
   last-place : (is : List Item) (i stop : ℕ) → lastSlot p i stop (map (slotOf T) is) ≡ place i stop (lastOf T p is)
@@ -136,8 +125,8 @@ module _ (T : Table) (p : ℕ) where
           → lastSlot p i stop (slotOf T x ∷ map (slotOf T) is) ≡ place i stop (lastHere T p x is l)
       go none e none ih here = rw (of-item T p x ∙ ap isThere e, lastSlot, e, lastHere) ih
       go (some m) e none ih here = rw (of-item T p x ∙ ap isThere e, lastSlot, e, lastHere) (here ∙ sym (add-zero i))
-      go none e (some s) ih here = rw (of-item T p x ∙ ap isThere e, lastSlot) (ih ∙ behind-place x i stop (some s))
-      go (some m) e (some s) ih here = rw (of-item T p x ∙ ap isThere e, lastSlot) (here ∙ behind-place x i stop (some s))
+      go none e (some s) ih here = rw (of-item T p x ∙ ap isThere e, lastSlot) (ih ∙ shifted-place x i stop (some s))
+      go (some m) e (some s) ih here = rw (of-item T p x ∙ ap isThere e, lastSlot) (here ∙ shifted-place x i stop (some s))
 
 -- What the slots say where an operator was found.
 module _ (T : Table) (is : List Item) (s : Split) (c : Cut T is s) where

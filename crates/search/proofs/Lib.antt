@@ -2,7 +2,7 @@ pub mod Roles
 pub mod Ranges
 pub mod Found
 pub mod Roots
-pub mod Parts
+pub mod SlotTrees
 pub mod PartRanges
 pub mod ItemSlots
 pub mod ItemRoots

@@ -43,7 +43,7 @@ use Rattle.search.proofs.Found.{
   not-right-take,
 }
 use Rattle.search.proofs.Roots.{range-size}
-use Rattle.search.proofs.Parts.{part-empty, part-step, part-operand, part-operands}
+use Rattle.search.proofs.SlotTrees.{part-empty, part-step, part-operand, part-operands}
 
 -- The same test a step further.
 pub ltb-same : (a b c d : ℕ) → (a < b → c < d) → (b ≤ a → d ≤ c) → ltb a b ≡ ltb c d

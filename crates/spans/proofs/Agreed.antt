@@ -10,21 +10,23 @@ use native.Mathlib.Omega.{arith}
 use lib.Dec.{eqb}
 use lib.ListN.{length, getD, length-map}
 use borrow.Author.Tests.{eqb-true, eqb-false, ne-eqb}
+use Rattle.grammar.specs.Spans.{Span}
 use Rattle.grammar.specs.Bytes.{Bytes}
 use Rattle.grammar.specs.Operator.{Table}
 use Rattle.grammar.specs.Span.{Item, itemTokens, items}
 use Rattle.grammar.specs.SpanTree.{SpanTree}
 use Rattle.grammar.specs.Search.{treeOfSpan}
-use Rattle.grammar.specs.Blocks.{Span, bodyTable, itemSpans, allItemSpans, spans, firstWithout}
+use Rattle.grammar.specs.Blocks.{bodyTable, itemSpans, allItemSpans, spans, firstWithout}
+use Rattle.grammar.proofs.Logic.{impossible}
 use Rattle.grammar.proofs.NodeCount.{contentsTotal}
 use Rattle.nesting.proofs.PairedItems.{behind-pair, behind-scope, length-range, items-done, items-content, items-bracket, items-block}
 use Rattle.layout.specs.Filled.{itemNumbers}
 use Rattle.search.specs.Slots.{slotOf, partCode, noTree}
-use Rattle.search.proofs.Bridge.{AllKnown, span-slots}
+use Rattle.search.proofs.Bridge.{span-slots}
 use Rattle.tree.specs.Built.{slotOfToken}
 use Rattle.node.specs.NodeWords.{Arrays}
 use Rattle.tree.specs.Agreeing.{tokens, Agrees, ends, leaves, brackets, blocks}
-use Rattle.tree.proofs.TokenWords.{agrees-paired, agrees-known}
+use Rattle.tree.proofs.TokenWords.{agrees-paired}
 use Rattle.tree.proofs.TreeWords.{agrees-slots}
 use Rattle.spans.specs.Judged.{openersIn, spanRoot, spanNodes, Judged, judgedAt, judgedSpans, codedOpener, codedSpans}
 use Rattle.spans.specs.declared.Spans.the-variants.{Trees}
@@ -37,23 +39,22 @@ judged s = record { opener = s .opener; nodes = elim (treeOfSpan (s .table) (s .
 -- A span with a tree has an item.
 tree-items : (T : Table) (is : List Item) (t : SpanTree) → treeOfSpan T is ≡ some t → length is ≡ 0 → ⊥
 unfolding treeOfSpan
-tree-items T [] t e z = let y : _≡_ {A = ℕ} 0 1 = cc in omega arith
+tree-items T [] t e z = impossible cc
 tree-items T (i ∷ is) t e z = omega arith
 
 -- The number of nodes by the tree of the items is that by the search over their slots; without items both are 0.
-nodes-slots : (T : Table) (is : List Item) → AllKnown T is
+nodes-slots : (T : Table) (is : List Item)
     → _≡_ {A = ℕ} (elim (treeOfSpan T is) [ none ↦ 0 | some t ↦ length is ])
     (elim (eqb (partCode (map (slotOf T) is)) noTree) [ true ↦ 0 | false ↦ length is ])
-nodes-slots T is known = go (treeOfSpan T is) refl (eqb (partCode (map (slotOf T) is)) noTree) refl
+nodes-slots T is = go (treeOfSpan T is) refl (eqb (partCode (map (slotOf T) is)) noTree) refl
   where
     go : (o : Option SpanTree) → treeOfSpan T is ≡ o → (b : Bool) → eqb (partCode (map (slotOf T) is)) noTree ≡ b
         → _≡_ {A = ℕ} (elim o [ none ↦ 0 | some t ↦ length is ]) (elim b [ true ↦ 0 | false ↦ length is ])
     go none e true f = refl
-    go none e false f = ⊎-elim (λ z. sym (ap length z)) (λ z. absurd (eqb-false _ noTree f z)) (span-slots T is known .0 e)
+    go none e false f = ⊎-elim (λ z. sym (ap length z)) (λ z. absurd (eqb-false _ noTree f z)) (span-slots T is .0 e)
     go (some t) e true f =
-        let z : none ≡ some t = sym (span-slots T is known .1 (inr (eqb-true _ noTree f))) ∙ e in
-        let y : _≡_ {A = ℕ} 0 1 = cc in
-        absurd (omega arith)
+        let z : none ≡ some t = sym (span-slots T is .1 (inr (eqb-true _ noTree f))) ∙ e in
+        impossible cc
     go (some t) e false f = refl
 
 module _ (A : Arrays) (text : Bytes) (L : List ℕ) where
@@ -68,7 +69,7 @@ module _ (A : Arrays) (text : Bytes) (L : List ℕ) where
       let slots : map (slotOfToken A) ns ≡ map (slotOf T) is = agrees-slots A text L h in
       let size : length ns ≡ length is = sym (length-map ns (slotOfToken A)) ∙ ap length slots ∙ length-map is (slotOf T) in
       ap (λ n. record { opener = o; nodes = n })
-      (nodes-slots T is (agrees-known A text L h)
+      (nodes-slots T is
       ∙ sym (ap₂ {C = ℕ} (λ ss n. elim (eqb (partCode ss) noTree) [ true ↦ 0 | false ↦ n ]) slots size))
 
   -- The spans of the range from `i` to `to`, as the law has them.
@@ -153,7 +154,7 @@ coded-next s ss t n e =
 -- The code of spans of which one has no tree, and of spans that all have one.
 pub coded-without : (ss : List Span) (o : Option ℕ) (n : ℕ) → firstWithout ss ≡ some o → codedSpans n (map judged ss) ≡ codedOpener o
 unfolding firstWithout
-coded-without [] o n h = let z : _≡_ {A = ℕ} 0 1 = cc in absurd (omega arith)
+coded-without [] o n h = impossible cc
 coded-without (s ∷ ss) o n h = go (treeOfSpan (s .table) (s .contents)) refl (coded-without ss o (n + length (s .contents)))
   where
     go : (t : Option SpanTree) → treeOfSpan (s .table) (s .contents) ≡ t
@@ -175,6 +176,5 @@ coded-with (s ∷ ss) n h = go (treeOfSpan (s .table) (s .contents)) refl (coded
         → codedSpans n (map judged (s ∷ ss)) ≡ Trees (n + contentsTotal (s ∷ ss))
     go none e ih =
         let z : some (s .opener) ≡ none = rw (e, firstWithout) at h in
-        let y : _≡_ {A = ℕ} 0 1 = cc in
-        absurd (omega arith)
+        impossible cc
     go (some t) e ih = coded-next s ss t n e ∙ ih (rw (e, firstWithout) at h) ∙ ap Trees (omega arith)

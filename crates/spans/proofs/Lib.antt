@@ -1,4 +1,4 @@
 pub mod Openers
 pub mod Agreed
-pub mod Steps
+pub mod SpanChecks
 pub mod Roots

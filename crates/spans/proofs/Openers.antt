@@ -11,7 +11,7 @@ use Rattle.nesting.specs.Paired.{IsContentKind, IsQuietKind, Paired}
 use Rattle.nesting.proofs.PairedClosers.{closed}
 use Rattle.spans.specs.Judged.{opensSpan, openersIn}
 
--- Content and the tokens of declarations open none.
+-- Atoms and the tokens of declarations open none.
 quiet-opens-none : (k : ℕ) → IsQuietKind k → opensSpan k ≡ false
 unfolding opensSpan
 quiet-opens-none zero q = refl

@@ -17,13 +17,12 @@ use Rattle.grammar.specs.Coded.{roleCode}
 use Rattle.grammar.specs.Span.{Item, items}
 use Rattle.grammar.specs.SpanTree.{SpanTree, root}
 use Rattle.grammar.specs.Search.{treeOfSpan}
-use Rattle.grammar.proofs.Logic.{clash}
+use Rattle.grammar.proofs.Logic.{clash, impossible}
 use Rattle.search.specs.Slots.{slotOf, partCode}
-use Rattle.search.proofs.Parts.{code-enough}
-use Rattle.search.proofs.Bridge.{AllKnown, part-slots-some}
+use Rattle.search.proofs.SlotTrees.{code-enough}
+use Rattle.search.proofs.Bridge.{part-slots-some}
 use Rattle.tree.specs.Built.{slotOfToken}
 use Rattle.tree.specs.Agreeing.{tokens, Agrees}
-use Rattle.tree.proofs.TokenWords.{agrees-known}
 use Rattle.tree.proofs.TreeWords.{agrees-slots}
 use Rattle.node.specs.NodeWords.{Arrays, arrays}
 use Rattle.spans.specs.declared.Spans.the-variants.{Trees}
@@ -40,13 +39,13 @@ use Rattle.spans.specs.Judged.{
   notedRoots,
   textRoots,
 }
-use Rattle.spans.proofs.Steps.{coded-first, noted-none, noted-refused, noted-next, roots-none, roots-some}
+use Rattle.spans.proofs.SpanChecks.{coded-first, noted-none, noted-refused, noted-next, roots-none, roots-some}
 
 -- The place of a span without a tree is not the answer that all have one.
 opener-no-trees : (o : Option ℕ) (m : ℕ) → codedOpener o ≡ Trees m → ⊥
 unfolding codedOpener
-opener-no-trees none m e = let z : _≡_ {A = ℕ} 0 1 = cc in omega arith
-opener-no-trees (some j) m e = let z : _≡_ {A = ℕ} 0 1 = cc in omega arith
+opener-no-trees none m e = impossible cc
+opener-no-trees (some j) m e = impossible cc
 
 -- Where all spans have trees, the first has one and the others have.
 trees-first :
@@ -153,14 +152,14 @@ module _ (A : Arrays) where
 
 -- The number of the root of a span's tree is what the search over its slots finds.
 part-of-span :
-    (T : Table) (is : List Item) → AllKnown T is → (s : SpanTree) → treeOfSpan T is ≡ some s
+    (T : Table) (is : List Item) (s : SpanTree) → treeOfSpan T is ≡ some s
     → partCode (map (slotOf T) is) ≡ roleCode (root T s)
 unfolding treeOfSpan
-part-of-span T [] known s e = let z : _≡_ {A = ℕ} 0 1 = cc in absurd (omega arith)
-part-of-span T (x ∷ is) known s e =
+part-of-span T [] s e = impossible cc
+part-of-span T (x ∷ is) s e =
     let size = length-map (x ∷ is) (slotOf T) in
     sym (code-enough (suc (length (x ∷ is))) (map (slotOf T) (x ∷ is)) (omega arith))
-    ∙ part-slots-some (suc (length (x ∷ is))) T (x ∷ is) (omega arith) known s e
+    ∙ part-slots-some (suc (length (x ∷ is))) T (x ∷ is) (omega arith) s e
 
 -- Where the arrays agree with a text, the root of a span that has a tree is that of the tree.
 pub root-of-span :
@@ -168,4 +167,4 @@ pub root-of-span :
     → treeOfSpan T (items (tokens A text from to)) ≡ some s → spanRoot A from to ≡ roleCode (root T s)
 unfolding spanRoot
 root-of-span A text L {T} {from} {to} h s e =
-    ap partCode (agrees-slots A text L h) ∙ part-of-span T (items (tokens A text from to)) (agrees-known A text L h) s e
+    ap partCode (agrees-slots A text L h) ∙ part-of-span T (items (tokens A text from to)) s e

@@ -12,7 +12,7 @@ use borrow.Author.Tests.{ltb-true, ltb-false, eqb-true, eqb-false}
 use Rattle.grammar.specs.Bytes.{Bytes, same}
 use Rattle.grammar.specs.Operator.{Fixity, Prefix, Infix, Postfix, Associativity, left, right, non, Role, Roles, role}
 use Rattle.grammar.specs.Coded.{associativityCode, associativityOf, roleCode, roleOf, rolesOf}
-use Rattle.grammar.specs.Declaration.{start}
+use Rattle.grammar.specs.Declaration.{startTable}
 use Rattle.grammar.proofs.Logic.{and-left, and-right}
 use Rattle.table.specs.Entries.{
   nameIn,
@@ -117,7 +117,7 @@ codes-moved xs at n ys m h j = before (ltb j at) refl
 -- So every number in the role arrays is one: in a table of the starting operators whose arrays pass the test ..
 pub starting-coded :
     (t : Table) → Sized t → areCodes (t .prefixes) ≡ true → areCodes (t .infixes) ≡ true → areCodes (t .postfixes) ≡ true
-    → ((text : Bytes) → tableOf text t ≡ start) → Starting t
+    → ((text : Bytes) → tableOf text t ≡ startTable) → Starting t
 starting-coded t s p i q e =
     record {
       sized = s;

@@ -1,5 +1,5 @@
 pub mod Roles
 pub mod Numbered
-pub mod Laws
+pub mod TableEntries
 pub mod Codes
 pub mod Tables

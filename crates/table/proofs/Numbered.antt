@@ -23,7 +23,7 @@ use Rattle.grammar.specs.Operator.{
   listed,
   Distinct,
 }
-use Rattle.grammar.proofs.Logic.{clash, same-eq}
+use Rattle.grammar.proofs.Logic.{clash, impossible, same-eq}
 use Rattle.table.specs.declared.Found.{Found}
 use Rattle.table.specs.declared.Found.the-variants.{At, Nothing}
 
@@ -61,7 +61,7 @@ from-suc f i (suc n) = ap (λ T. f (suc i) ∷ T) (from-suc f (suc i) n)
 -- The number found is one of them.
 pub place-within : (m : Bytes) (f : ℕ → Operator) (i n k : ℕ) → place m f i n ≡ At k → (i ≤ k) × (k < i + n)
 unfolding place
-place-within m f i zero k h = let z : _≡_ {A = ℕ} 0 1 = cc in absurd (omega arith)
+place-within m f i zero k h = impossible cc
 place-within m f i (suc n) k h = go (same m (f i .name)) refl (place-within m f (suc i) n k)
   where
     go : (b : Bool) → same m (f i .name) ≡ b → (place m f (suc i) n ≡ At k → (suc i ≤ k) × (k < suc i + n)) → (i ≤ k) × (k < i + suc n)

@@ -53,7 +53,7 @@ use Rattle.table.proofs.Numbered.{
   removed-nothing,
   removed-found,
 }
-use Rattle.table.proofs.Laws.{Long}
+use Rattle.table.proofs.TableEntries.{Long}
 use Rattle.table.proofs.Codes.{coded-role, coded-operator, coded-removed}
 
 module _ (text : Bytes) where

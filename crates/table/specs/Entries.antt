@@ -6,12 +6,12 @@ use mathlib.Core.Option.{some}
 use Prim.Native.Nat.{ℕ, zero, suc, _+_, _-_, _≤_, _<_}
 use lib.Dec.{ltb}
 use lib.ListN.{length, take, drop, getD, set}
+use Rattle.grammar.specs.Fault.{longestText}
 use Rattle.grammar.specs.Bytes.{Bytes, bytes, same}
-use Rattle.grammar.specs.Operator.{Fixity, Prefix, Infix, Postfix, Role, Operator}
+use Rattle.grammar.specs.Operator.{Fixity, Prefix, Infix, Postfix, Role}
 use Rattle.grammar.specs.Coded.{fixityOf, roleCode, roleOf, rolesOf}
 use Rattle.grammar.specs.Operator as G
-use Rattle.grammar.specs.Declaration.{start}
-use Rattle.grammar.specs.Answer.{longestText}
+use Rattle.grammar.specs.Declaration.{startTable}
 use Rattle.table.specs.declared.Found.{Found}
 use Rattle.table.specs.declared.Found.the-variants.{At, Nothing}
 use Rattle.table.specs.declared.Table.{Table}
@@ -62,7 +62,7 @@ Coded t = (j : ℕ) → IsCode (getD (t .prefixes) j 0) × IsCode (getD (t .infi
 pub record Starting (t : Table) : Type 0 where
   pub sized : Sized t
   pub coded : Coded t
-  pub table : (text : Bytes) → tableOf text t ≡ start
+  pub table : (text : Bytes) → tableOf text t ≡ startTable
 
 -- Whether `n` operators meet the four conditions: their names play no part.
 abbrev pub AllLawful : List ℕ → List ℕ → List ℕ → ℕ → Bool → Type 0

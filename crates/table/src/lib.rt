@@ -5,7 +5,7 @@ ghost use Prim.Native.Nat.{_≤_, _<_};
 ghost use Rattle.grammar.specs.Bytes.{same};
 ghost use Rattle.grammar.specs.Operator.{onePrecedenceTest, only, besideInfix, lawful};
 ghost use Rattle.grammar.specs.Coded.{fixityOf, associativityOf, roleOf, rolesOf};
-ghost use Rattle.grammar.specs.Answer.{longestText};
+ghost use Rattle.grammar.specs.Fault.{longestText};
 ghost use Rattle.table.specs.Entries.{
   nameIn,
   codedFind,

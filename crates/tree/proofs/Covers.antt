@@ -8,12 +8,12 @@ use lib.ListN.{length, take, drop, getD}
 use Rattle.nesting.specs.Paired.{Paired, done, content, bracket, block}
 use Rattle.nesting.proofs.PairedCases.{paired-bracket, paired-block}
 use Rattle.layout.specs.Filled.{behindItem, itemNumbers}
-use Rattle.layout.proofs.Laws.{behind-content, behind-bracket, behind-block, met, items-end, items-step}
+use Rattle.layout.proofs.ItemWalks.{behind-content, behind-bracket, behind-block, met, items-end, items-step}
 use Rattle.node.specs.NodeWords.{Arrays}
-use Rattle.tree.specs.Building.{tokensOf, cover, Placed, SpanAt, ItemAt, Items, none, more}
+use Rattle.tree.specs.Building.{tokenCount, cover, RangeStands, SpanAt, ItemAt, Items, none, more}
 
 module _ (A : Arrays) where
-  pub cover-more : (i : ℕ) (ns : List ℕ) → cover A (i ∷ ns) ≡ tokensOf A i + cover A ns
+  pub cover-more : (i : ℕ) (ns : List ℕ) → cover A (i ∷ ns) ≡ tokenCount A i + cover A ns
   unfolding cover
   cover-more i ns = refl
 
@@ -21,8 +21,8 @@ module _ (A : Arrays) where
   unfolding cover
   cover-none = refl
 
-  pub tokens-some : (i : ℕ) → ItemAt A i → 1 ≤ tokensOf A i
-  unfolding tokensOf
+  pub tokens-some : (i : ℕ) → ItemAt A i → 1 ≤ tokenCount A i
+  unfolding tokenCount
   tokens-some i h = omega arith
 
   pub cover-least : {ns : List ℕ} → Items A ns → length ns ≤ cover A ns
@@ -46,7 +46,7 @@ module _ (A : Arrays) where
   item-of (suc k) (more h hs) l = item-of k hs (omega arith)
 
   pub cover-split : (k : ℕ) (ns : List ℕ) → k < length ns
-      → cover A ns ≡ cover A (take k ns) + (tokensOf A (getD ns k 0) + cover A (drop (suc k) ns))
+      → cover A ns ≡ cover A (take k ns) + (tokenCount A (getD ns k 0) + cover A (drop (suc k) ns))
   cover-split k [] l = absurd (omega arith)
   cover-split zero (i ∷ ns) l = omega (arith, cover-more i ns, cover-none)
   cover-split (suc k) (i ∷ ns) l = omega (arith, cover-more i ns, cover-more i (take k ns), cover-split k ns (omega arith))
@@ -57,7 +57,7 @@ module _ (A : Arrays) where
   length-split (suc k) (i ∷ ns) l = omega (arith, length-split k ns (omega arith))
 
   -- The first item of a span, and the spans within it.
-  narrower : {from to from′ to′ : ℕ} → from ≤ from′ → to′ ≤ to → Placed A from to → Placed A from′ to′
+  narrower : {from to from′ to′ : ℕ} → from ≤ from′ → to′ ≤ to → RangeStands A from to → RangeStands A from′ to′
   narrower l m h =
       record { quotes = λ i a b e. h .quotes i (omega arith) (omega arith) e; blocks = λ i a b e. h .blocks i (omega arith) (omega arith) e }
 
@@ -84,7 +84,7 @@ module _ (A : Arrays) where
     pub covered : cover A (itemNumbers (A .kinds) (A .closes) from to) ≡ to - from
 
   spread-next : (i j to : ℕ) → SpanAt A i to → i < to → behindItem (A .kinds) (A .closes) i ≡ j → Spread j to → Spread i to
-  unfolding tokensOf
+  unfolding tokenCount
   spread-next i j to h l e s =
       let m = met (h .paired) l in
       let t : itemNumbers (A .kinds) (A .closes) i to ≡ i ∷ itemNumbers (A .kinds) (A .closes) j to = rw e at (items-step (A .kinds) (A .closes) to i (h .paired) l) in
@@ -93,7 +93,7 @@ module _ (A : Arrays) where
         covered = ap (cover A) t ∙ omega (arith, cover-more i (itemNumbers (A .kinds) (A .closes) j to), s .covered, m .further, m .within, e);
       }
 
-  spread-paired : {i to : ℕ} → Paired (A .kinds) (A .closes) i to → to ≤ 1024 → Placed A i to → Spread i to
+  spread-paired : {i to : ℕ} → Paired (A .kinds) (A .closes) i to → to ≤ 1024 → RangeStands A i to → Spread i to
   spread-paired (done {to}) n h =
       let t = items-end (A .kinds) (A .closes) to to (omega arith) in
       record { items = rw t none; covered = ap (cover A) t ∙ omega (arith, cover-none) }
@@ -112,10 +112,10 @@ module _ (A : Arrays) where
   spread h = spread-paired (h .paired) (h .inArrays) (h .placed)
 
   -- How many tokens a bracket pair and a block take.
-  pub tokens-bracket : (i : ℕ) → getD (A .kinds) i 0 ≡ 4 → tokensOf A i ≡ suc (getD (A .closes) i 0) - i
-  unfolding tokensOf
+  pub tokens-bracket : (i : ℕ) → getD (A .kinds) i 0 ≡ 4 → tokenCount A i ≡ suc (getD (A .closes) i 0) - i
+  unfolding tokenCount
   tokens-bracket i e = ap (λ j. j - i) (behind-bracket (A .kinds) (A .closes) i e)
 
-  pub tokens-block : (i : ℕ) → getD (A .kinds) i 0 ≡ 7 → tokensOf A i ≡ suc (getD (A .closes) (getD (A .closes) i 0) 0) - i
-  unfolding tokensOf
+  pub tokens-block : (i : ℕ) → getD (A .kinds) i 0 ≡ 7 → tokenCount A i ≡ suc (getD (A .closes) (getD (A .closes) i 0) 0) - i
+  unfolding tokenCount
   tokens-block i e = ap (λ j. j - i) (behind-block (A .kinds) (A .closes) i e)

@@ -2,7 +2,7 @@ pub mod Over
 pub mod Covers
 pub mod Words
 pub mod Entries
-pub mod Steps
+pub mod ItemBuilding
 pub mod Spans
 pub mod TokenWords
 pub mod TreeWords

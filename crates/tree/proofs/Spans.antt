@@ -10,14 +10,35 @@ use Rattle.grammar.specs.Answer.{over}
 use Rattle.grammar.specs.Nodes.{nodeWords}
 use Rattle.nesting.proofs.PairedCases.{paired-ordered}
 use Rattle.layout.specs.Filled.{itemNumbers, pick, Fillable, Filled}
-use Rattle.layout.proofs.Laws.{few-items}
+use Rattle.layout.proofs.ItemWalks.{few-items}
 use Rattle.search.specs.Slots.{slotsIn}
 use Rattle.tree.specs.Built.{slotOfToken, spanWords}
 use Rattle.node.specs.NodeWords.{Arrays, tokenNode, bracketNode, blockNode, arrays}
-use Rattle.tree.specs.Building.{entries, tokensOf, cover, partWords, leafWords, Items, Spannable, Buildable, Leafable, Written, Whole}
+use Rattle.tree.specs.Building.{
+  entries,
+  tokenCount,
+  cover,
+  partWords,
+  leafWords,
+  Items,
+  Spannable,
+  Buildable,
+  Leafable,
+  Written,
+  Whole,
+}
 use Rattle.tree.proofs.Over.{over-length, over-node}
 use Rattle.tree.proofs.Covers.{tokens-bracket, tokens-block, spread}
-use Rattle.tree.proofs.Words.{span-part, span-bound, token-size, leaf-bracket, leaf-bracket-length, leaf-block, leaf-block-length, leaf-token}
+use Rattle.tree.proofs.Words.{
+  span-part,
+  span-bound,
+  token-size,
+  leaf-bracket,
+  leaf-bracket-length,
+  leaf-block,
+  leaf-block-length,
+  leaf-token,
+}
 use Rattle.tree.proofs.Entries.{take-kept, sets-take, entries-filled, slots-filled}
 
 -- A span: its items are filled in, and built.
@@ -125,7 +146,7 @@ module _ {A : Arrays} {M P F Q : List ℕ} {i free : ℕ} {N : List ℕ} {base :
         rw (add-one, cs)
         (record { whole = h .whole; span = g; scratch = omega arith; room = omega (arith, h .room); few = omega arith })
 
-    pub bracket-falls : 3 * (c - (i + 1)) + 2 < 3 * tokensOf A i
+    pub bracket-falls : 3 * (c - (i + 1)) + 2 < 3 * tokenCount A i
     bracket-falls = omega (arith, paired-ordered (h .item .bracket k .paired), tokens-bracket A i k)
 
     module _ {N₁ M′ P′ F′ Q′ : List ℕ} {n : ℕ} (w : Written (spanWords A (i + 1) c base) N N₁ n free M P F Q M′ P′ F′ Q′) where
@@ -170,7 +191,7 @@ module _ {A : Arrays} {M P F Q : List ℕ} {i free : ℕ} {N : List ℕ} {base :
         let o = paired-ordered (g .1 .paired) in
         (omega (arith, g .1 .inArrays), omega (arith, ends), omega (arith, ends, g .1 .inArrays))
 
-    pub block-falls : 3 * (d - (c + 1)) + 2 < 3 * tokensOf A i
+    pub block-falls : 3 * (d - (c + 1)) + 2 < 3 * tokenCount A i
     block-falls = omega (arith, paired-ordered (h .item .block k .1 .paired), h .item .block k .0, tokens-block A i k, ends)
 
     module _ {N₁ M′ P′ F′ Q′ : List ℕ} {n : ℕ} (w : Written (spanWords A (c + 1) d base) N N₁ n free M P F Q M′ P′ F′ Q′) where

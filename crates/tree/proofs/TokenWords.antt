@@ -1,31 +1,26 @@
--- Of a span whose arrays agree with its items: what holds of each item, and the words of a leaf, which are those of its token.
+-- Of a span whose arrays agree with its items: what holds of each item, and the words of a leaf, which are those of its atom.
 use mathlib.Core.Path.{_≡_, refl, sym, ap, _∙_}
-use mathlib.Core.Bool.{Bool, true, false}
-use mathlib.Core.Option.{none, some}
 use mathlib.Core.List.{List, [], _∷_}
 use Prim.Native.Nat.{ℕ, zero, suc, _+_, _-_, _≤_, _<_}
 use native.Mathlib.Omega.{arith}
 use lib.ListN.{length, getD, take, drop, length-append, length-take, length-drop}
 use borrow.Author.Tests.{eq-eqb, ne-eqb}
 use Rattle.grammar.specs.Bytes.{Bytes}
-use Rattle.grammar.specs.Token.{Token, symbol, number, quoted}
-use Rattle.grammar.specs.Operator.{Table, role, hasRole, inForce}
+use Rattle.grammar.specs.Token.{atom, Token, symbol, number, quoted, Atom, characters}
+use Rattle.grammar.specs.Operator.{Table}
 use Rattle.grammar.specs.Declaration.{declarations, allTokens}
-use Rattle.grammar.specs.Span.{Item, single, pair, scope, itemTokens, items}
+use Rattle.grammar.specs.Span.{Item, single, pair, scope, itemTokens, items, allItemTokens}
 use Rattle.grammar.specs.Coded.{tokenOf, tokenAt, charactersIn, nameNumber}
 use Rattle.grammar.specs.Blocks.{bodyTable}
 use Rattle.grammar.specs.Tree.{leaf}
-use Rattle.grammar.specs.Nodes.{nodeWords, leafKind, charactersOffset, characters, words}
-use Rattle.grammar.proofs.ItemsNested.{allItemTokens}
+use Rattle.grammar.specs.Nodes.{nodeWords, leafKind, charactersOffset, words}
 use Rattle.nesting.specs.Paired.{Paired, done, content, bracket, block}
+use Rattle.nesting.proofs.Atoms.{atom-at}
 use Rattle.nesting.proofs.PairedItems.{behind-pair, behind-scope, items-done, items-content, items-bracket, items-block}
-use Rattle.grammar.specs.SpanTree.{isOperand, isOperandToken}
-use Rattle.grammar.specs.Search.{symbolAt, operatorAt}
 use Rattle.search.specs.Slots.{slotOf}
-use Rattle.search.proofs.Bridge.{Known, AllKnown}
 use Rattle.tree.specs.Built.{slotOfToken}
 use Rattle.node.specs.NodeWords.{Arrays, tokenNode}
-use Rattle.tree.specs.Agreeing.{tokens, token, Stands, Agrees, ends, leaves, brackets, blocks}
+use Rattle.tree.specs.Agreeing.{tokens, token, atomIn, Stands, Agrees, ends, leaves, brackets, blocks}
 
 module _ (A : Arrays) (text : Bytes) (L : List ℕ) where
   pub agrees-paired : {T : Table} {i to : ℕ} → Agrees A text L T i to → Paired (A .kinds) (A .closes) i to
@@ -60,7 +55,7 @@ module _ (A : Arrays) (text : Bytes) (L : List ℕ) where
     pub agrees : Agrees A text L (bodyTable T ds) (suc middle) close
 
   abbrev pub ItemFits : Table → ℕ → Item → Type 0
-  ItemFits T i (single t) = Stands A text i × (t ≡ token A text i) × (getD L i 0 ≡ nameNumber T (token A text i))
+  ItemFits T i (single a) = Stands A text i × (token A text i ≡ atom a) × (getD L i 0 ≡ nameNumber T (atom a))
   ItemFits T i (pair ts) = PairFits T i ts
   ItemFits T i (scope ds ts) = ScopeFits T i ds ts
 
@@ -83,7 +78,10 @@ module _ (A : Arrays) (text : Bytes) (L : List ℕ) where
   fitting (ends {to = to}) = rw (items-done text (A .kinds) (A .starts) (A .sizes) to) (tt, omega arith)
   fitting (leaves {T} {i} {to} l h s g p) =
       rw (items-content text (A .kinds) (A .starts) (A .sizes) i to l (h .isContent))
-      (fit-next T i (suc i) to (single (token A text i)) (items (tokens A text (suc i) to)) s (h, refl, g) (omega arith) (fitting p))
+      (fit-next T i (suc i) to (single (atomIn A text i)) (items (tokens A text (suc i) to)) s
+      (h, atom-at text (A .kinds) (A .starts) (A .sizes) i (h .isContent), g)
+      (omega arith)
+      (fitting p))
   fitting (brackets {T} {i} {to} c k w l m y s p q) =
       let ts = tokens A text (suc i) c in
       rw (items-bracket text (A .kinds) (A .starts) (A .sizes) i c to k l m y (agrees-paired p))
@@ -149,53 +147,37 @@ module _ (A : Arrays) (text : Bytes) (L : List ℕ) where
   unfolding tokenAt
   token-of i k e = rw e
 
-  pub leaf-words : (i base : ℕ) → Stands A text i → tokenNode A i ≡ words (λ j. getD (A .starts) j 0) (leaf (token A text i)) i base
+  pub leaf-words : (i base : ℕ) (a : Atom) → Stands A text i → token A text i ≡ atom a
+      → tokenNode A i ≡ words (λ j. getD (A .starts) j 0) (leaf a) i base
   unfolding tokenNode words leafKind charactersOffset characters nodeWords tokenOf charactersIn
-  leaf-words i base h =
+  leaf-words i base a h t =
       by-content i h
-      (λ e. rw (ne-eqb (getD (A .kinds) i 0) 3 (λ f. omega arith), tokenNode)
-      (rw (ne-eqb (getD (A .kinds) i 0) 2 (λ f. omega arith), token-of i 1 e, cut-length (offset i) (getD (A .sizes) i 0) (h .inText))))
-      (λ e. rw (ne-eqb (getD (A .kinds) i 0) 3 (λ f. omega arith), tokenNode)
-      (rw (eq-eqb (getD (A .kinds) i 0) 2 e, token-of i 2 e, cut-length (offset i) (getD (A .sizes) i 0) (h .inText))))
-      (λ e. rw (eq-eqb (getD (A .kinds) i 0) 3 e, tokenNode)
-      (rw (token-of i 3 e, cut-length (offset i + 1) (getD (A .sizes) i 0 - 2) (omega (arith, h .inText, h .quotes e)))))
+      (λ e. let z : atom (symbol (bare i)) ≡ atom a = sym (token-of i 1 e) ∙ t in
+      let y : a ≡ symbol (bare i) = cc in
+      rw (ne-eqb (getD (A .kinds) i 0) 3 (λ f. omega arith), tokenNode)
+      (rw (ne-eqb (getD (A .kinds) i 0) 2 (λ f. omega arith), y, cut-length (offset i) (getD (A .sizes) i 0) (h .inText))))
+      (λ e. let z : atom (number (bare i)) ≡ atom a = sym (token-of i 2 e) ∙ t in
+      let y : a ≡ number (bare i) = cc in
+      rw (ne-eqb (getD (A .kinds) i 0) 3 (λ f. omega arith), tokenNode)
+      (rw (eq-eqb (getD (A .kinds) i 0) 2 e, y, cut-length (offset i) (getD (A .sizes) i 0) (h .inText))))
+      (λ e. let z : atom (quoted (unquoted i)) ≡ atom a = sym (token-of i 3 e) ∙ t in
+      let y : a ≡ quoted (unquoted i) = cc in
+      rw (eq-eqb (getD (A .kinds) i 0) 3 e, tokenNode)
+      (rw (y, cut-length (offset i + 1) (getD (A .sizes) i 0 - 2) (omega (arith, h .inText, h .quotes e)))))
 
-  pub symbol-length : (i : ℕ) (m : Bytes) → Stands A text i → token A text i ≡ symbol m → length m ≡ getD (A .sizes) i 0
+  pub symbol-length : (i : ℕ) (m : Bytes) → Stands A text i → token A text i ≡ atom (symbol m) → length m ≡ getD (A .sizes) i 0
   unfolding tokenOf charactersIn
   symbol-length i m h t =
       by-content i h
-      (λ e. let z : symbol (bare i) ≡ symbol m = sym (token-of i 1 e) ∙ t in
+      (λ e. let z : atom (symbol (bare i)) ≡ atom (symbol m) = sym (token-of i 1 e) ∙ t in
       let y : bare i ≡ m = cc in
       sym (ap length y) ∙ cut-length (offset i) (getD (A .sizes) i 0) (h .inText))
-      (λ e. let z : number (bare i) ≡ symbol m = sym (token-of i 2 e) ∙ t in cc)
-      (λ e. let z : quoted (unquoted i) ≡ symbol m = sym (token-of i 3 e) ∙ t in cc)
+      (λ e. let z : atom (number (bare i)) ≡ atom (symbol m) = sym (token-of i 2 e) ∙ t in cc)
+      (λ e. let z : atom (quoted (unquoted i)) ≡ atom (symbol m) = sym (token-of i 3 e) ∙ t in cc)
 
-  pub symbol-kind : (i : ℕ) (m : Bytes) → Stands A text i → token A text i ≡ symbol m → getD (A .kinds) i 0 ≡ 1
+  pub symbol-kind : (i : ℕ) (m : Bytes) → Stands A text i → token A text i ≡ atom (symbol m) → getD (A .kinds) i 0 ≡ 1
   unfolding tokenOf charactersIn
   symbol-kind i m h t =
       by-content i h (λ e. e)
-      (λ e. let z : number (bare i) ≡ symbol m = sym (token-of i 2 e) ∙ t in cc)
-      (λ e. let z : quoted (unquoted i) ≡ symbol m = sym (token-of i 3 e) ∙ t in cc)
-
-  -- Every item of such a span is an operator or an operand.
-  token-known : (T : Table) (i : ℕ) → Stands A text i → Known T (single (token A text i))
-  unfolding operatorAt symbolAt isOperand isOperandToken inForce tokenOf charactersIn
-  token-known T i h =
-      by-content i h
-      (λ e. rw (token-of i 1 e) (word (bare i) (hasRole (role T (bare i))) refl))
-      (λ e. rw (token-of i 2 e) (λ n. refl))
-      (λ e. rw (token-of i 3 e) (λ n. refl))
-    where
-      word : (w : Bytes) (b : Bool) → hasRole (role T w) ≡ b → Known T (single (symbol w))
-      word w true e n = let z : some w ≡ none = rw (e, operatorAt) at n in let y : _≡_ {A = ℕ} 0 1 = cc in absurd (omega arith)
-      word w false e n = rw e
-
-  fit-known : (T : Table) (xs : List Item) (i : ℕ) → AllFit T i xs → AllKnown T xs
-  unfolding isOperand
-  fit-known T [] i h = tt
-  fit-known T (single t ∷ xs) i h = (rw (h .1 .1) (token-known T i (h .1 .0)), fit-known T xs (i + length (itemTokens (single t))) (h .2))
-  fit-known T (pair ts ∷ xs) i h = (λ n. refl, fit-known T xs (i + length (itemTokens (pair ts))) (h .2))
-  fit-known T (scope ds ts ∷ xs) i h = (λ n. refl, fit-known T xs (i + length (itemTokens (scope ds ts))) (h .2))
-
-  pub agrees-known : {T : Table} {i to : ℕ} → Agrees A text L T i to → AllKnown T (items (tokens A text i to))
-  agrees-known {T} {i} {to} h = fit-known T (items (tokens A text i to)) i (agrees-fit h)
+      (λ e. let z : atom (number (bare i)) ≡ atom (symbol m) = sym (token-of i 2 e) ∙ t in cc)
+      (λ e. let z : atom (quoted (unquoted i)) ≡ atom (symbol m) = sym (token-of i 3 e) ∙ t in cc)

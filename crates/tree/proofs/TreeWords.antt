@@ -2,41 +2,67 @@
 -- slots stands where the search over items cuts them, so the two parts beside it are the operands; what stands within a bracket pair or
 -- a block is a span again.
 use mathlib.Core.Path.{_≡_, refl, sym, ap, ap₂, _∙_, subst}
-use mathlib.Core.Bool.{Bool, true, false, not, _&&_, _||_}
+use mathlib.Core.Bool.{Bool, true, false, not}
 use mathlib.Core.List.{List, [], _∷_, _++_, map}
 use mathlib.Core.Option.{Option, none, some}
-use Prim.Native.Nat.{ℕ, zero, suc, _+_, _-_, _*_, _/_, _≤_, _<_}
+use Prim.Native.Nat.{ℕ, zero, suc, pred, _+_, _-_, _*_, _/_, _≤_, _<_}
 use native.Mathlib.Omega.{arith}
 use lib.Dec.{eqb}
 use lib.ListN.{length, take, drop, getD, length-append}
 use lib.Seq.{getD-at, take-at, drop-append-add}
 use borrow.Author.Tests.{eq-eqb, ne-eqb}
 use Rattle.grammar.specs.Bytes.{Bytes, isEmpty}
-use Rattle.grammar.specs.Token.{Token, symbol, closing, keywordIn, keywordEnd}
-use Rattle.grammar.specs.Operator.{Table, role}
+use Rattle.grammar.specs.Token.{atom, structure, Token, symbol, closing, keywordIn, keywordEnd, Atom}
+use Rattle.grammar.specs.Operator.{Fixity, Table}
 use Rattle.grammar.specs.Declaration.{declarations}
-use Rattle.grammar.specs.Span.{Item, single, pair, scope, itemTokens, items}
-use Rattle.grammar.specs.SpanTree.{SpanTree, missing, operand, apply, yield, present, fixityBy, fixity, root, admitsBoth, isOperand}
+use Rattle.grammar.specs.Span.{Item, single, pair, scope, itemTokens, items, allItemTokens}
+use Rattle.grammar.specs.SpanTree.{
+  SpanTree,
+  missing,
+  operand,
+  apply,
+  yield,
+  present,
+  fixityBy,
+  fixity,
+  roleOfFixity,
+  roleOver,
+  root,
+  admitsBoth,
+  isOperand,
+  Admitted,
+}
 use Rattle.grammar.specs.Search.{Split, rootOf, joined, lone, partTree, treeOfSpan}
 use Rattle.grammar.specs.Tree.{Tree, nothing, leaf, bracket, block, node, flat, spanTree}
 use Rattle.grammar.specs.Blocks.{bodyTable, hangItem, hang, hangFound, treeIn}
-use Rattle.grammar.specs.Nodes.{count, nodeWords, operatorKind, firstChild, secondChild, words}
-use Rattle.grammar.proofs.ItemsNested.{allItemTokens, append-tokens}
+use Rattle.grammar.specs.Nodes.{count, operatorWords, words}
+use Rattle.grammar.proofs.Logic.{impossible}
+use Rattle.grammar.proofs.ItemsNested.{append-tokens}
 use Rattle.grammar.proofs.SpanRoot.{present-yield}
 use Rattle.grammar.proofs.SpanSearch.{partTree-sound}
-use Rattle.grammar.proofs.TextSound.{underBracket-some, underBlock-some, underOperator-some}
-use Rattle.grammar.proofs.Answers.{words-length}
+use Rattle.grammar.proofs.Hung.{underBracket-some, underBlock-some, underOperator-some}
+use Rattle.grammar.proofs.Operands.{Operated, words-length, hang-present, hang-operated, treeIn-operated}
 use Rattle.nesting.specs.Paired.{numbersFrom}
 use Rattle.nesting.proofs.PairedItems.{length-range}
 use Rattle.layout.specs.Filled.{itemNumbers}
 use Rattle.layout.proofs.Items.{numbers-items}
 use Rattle.search.specs.Slots.{slotOf, rootSlot}
 use Rattle.search.proofs.Bridge.{root-slots, root-slots-some}
-use Rattle.tree.specs.Built.{slotOfToken, itemWords, operatorWords, rangeIn, spanWords}
+use Rattle.tree.specs.Built.{slotOfToken, itemWords, rootWords, rangeIn, spanWords}
 use Rattle.node.specs.NodeWords.{Arrays, bracketNode, blockNode, operatorNode}
 use Rattle.tree.proofs.Words.{item-bracket, item-block, item-token, range-item, range-operator}
-use Rattle.tree.specs.Agreeing.{tokens, token, Agrees}
-use Rattle.tree.proofs.TokenWords.{agrees-paired, PairFits, ScopeFits, ItemFits, AllFit, agrees-fit, agrees-length, leaf-words, symbol-length}
+use Rattle.tree.specs.Agreeing.{tokens, Agrees}
+use Rattle.tree.proofs.TokenWords.{
+  agrees-paired,
+  PairFits,
+  ScopeFits,
+  ItemFits,
+  AllFit,
+  agrees-fit,
+  agrees-length,
+  leaf-words,
+  symbol-length,
+}
 
 -- What a tree was found from.
 lone-some : (T : Table) (x : Item) (xs : List Item) (s : SpanTree) → lone T x xs ≡ some s → (xs ≡ []) × (s ≡ operand x)
@@ -45,24 +71,24 @@ lone-some T x [] s e = go (isOperand T x) refl
   where
     go : (b : Bool) → isOperand T x ≡ b → (_≡_ {A = List Item} [] []) × (s ≡ operand x)
     go true f = let z : some (operand x) ≡ some s = rw (f, lone) at e in (refl, cc)
-    go false f = let z : none ≡ some s = rw (f, lone) at e in let y : _≡_ {A = ℕ} 0 1 = cc in absurd (omega arith)
-lone-some T x (y ∷ xs) s e = let z : _≡_ {A = ℕ} 0 1 = cc in absurd (omega arith)
+    go false f = let z : none ≡ some s = rw (f, lone) at e in impossible cc
+lone-some T x (y ∷ xs) s e = impossible cc
 
 joined-some : (T : Table) (a : Option SpanTree) (m : Bytes) (b : Option SpanTree) (s : SpanTree) → joined T a m b ≡ some s
     → (l : SpanTree) × (r : SpanTree) × (a ≡ some l) × (b ≡ some r) × (s ≡ apply l m r)
 unfolding joined
-joined-some T none m b s e = let z : _≡_ {A = ℕ} 0 1 = cc in absurd (omega arith)
-joined-some T (some l) m none s e = let z : _≡_ {A = ℕ} 0 1 = cc in absurd (omega arith)
-joined-some T (some l) m (some r) s e = go ((present l || present r) && admitsBoth (role T m (fixity l r)) (root T l) (root T r)) e
+joined-some T none m b s e = impossible cc
+joined-some T (some l) m none s e = impossible cc
+joined-some T (some l) m (some r) s e = go (admitsBoth (roleOver T l m r) (root T l) (root T r)) e
   where
     go : (b : Bool) → elim b [ true ↦ some (apply l m r) | false ↦ none ] ≡ some s
         → (l′ : SpanTree) × (r′ : SpanTree) × (some l ≡ some l′) × (some r ≡ some r′) × (s ≡ apply l′ m r′)
     go true f = (l, r, refl, refl, cc)
-    go false f = let z : _≡_ {A = ℕ} 0 1 = cc in absurd (omega arith)
+    go false f = impossible cc
 
 pub span-some : (T : Table) (xs : List Item) (s : SpanTree) → treeOfSpan T xs ≡ some s → (m : ℕ) × (partTree m T xs ≡ some s)
 unfolding treeOfSpan
-span-some T [] s e = let z : _≡_ {A = ℕ} 0 1 = cc in absurd (omega arith)
+span-some T [] s e = impossible cc
 span-some T (x ∷ xs) s e = (suc (length (x ∷ xs)), e)
 
 -- What the tree of tokens was hung from.
@@ -73,46 +99,36 @@ tree-found k T ts t e = go (treeOfSpan T (items ts)) refl e
   where
     go : (o : Option SpanTree) → treeOfSpan T (items ts) ≡ o → hangFound (treeIn k) T o ≡ some t
         → (s : SpanTree) × (treeOfSpan T (items ts) ≡ some s) × (hang (treeIn k) T s ≡ some t)
-    go none f g = let z : none ≡ some t = g in let y : _≡_ {A = ℕ} 0 1 = cc in absurd (omega arith)
+    go none f g = let z : none ≡ some t = g in impossible cc
     go (some s) f g = (s, f, g)
-
--- An operand that is there, and one that is not.
-hang-present : (inner : Table → List Token → Option Tree) (T : Table) (s : SpanTree) (t : Tree) → hang inner T s ≡ some t
-    → present (spanTree t) ≡ present s
-unfolding hang hangItem present spanTree
-hang-present inner T missing t e = let h : t ≡ nothing = cc in rw h
-hang-present inner T (operand (single t₀)) t e = let h : t ≡ leaf t₀ = cc in rw h
-hang-present inner T (operand (pair ts)) t e = rw (underBracket-some (inner T ts) t e .2)
-hang-present inner T (operand (scope ds ts)) t e = rw (underBlock-some (declarations ds) (inner (bodyTable T ds) ts) t e .2)
-hang-present inner T (apply l m r) t e = rw (underOperator-some m (hang inner T l) (hang inner T r) t e .4)
 
 -- The tree that is hung has the root of the span's tree.
 pub hang-root : (inner : Table → List Token → Option Tree) (T : Table) (s : SpanTree) (t : Tree) → hang inner T s ≡ some t
     → root T (spanTree t) ≡ root T s
-unfolding hang hangItem root spanTree fixity
+unfolding hang hangItem root spanTree roleOver fixity
 hang-root inner T missing t e = let h : t ≡ nothing = cc in rw h
-hang-root inner T (operand (single t₀)) t e = let h : t ≡ leaf t₀ = cc in rw h
+hang-root inner T (operand (single a)) t e = let h : t ≡ leaf a = cc in rw h
 hang-root inner T (operand (pair ts)) t e = rw (underBracket-some (inner T ts) t e .2)
 hang-root inner T (operand (scope ds ts)) t e = rw (underBlock-some (declarations ds) (inner (bodyTable T ds) ts) t e .2)
 hang-root inner T (apply l m r) t e =
     let h = underOperator-some m (hang inner T l) (hang inner T r) t e in
-    rw (h .4) (ap₂ (λ a b. role T m (fixityBy a b)) (hang-present inner T l (h .0) (h .2)) (hang-present inner T r (h .1) (h .3)))
+    rw (h .4) (ap₂ (λ a b. roleOfFixity T m (fixityBy a b)) (hang-present inner T l (h .0) (h .2)) (hang-present inner T r (h .1) (h .3)))
 
 count-absent : (t : Tree) → present (spanTree t) ≡ false → count t ≡ 0
 unfolding present spanTree count
 count-absent nothing e = refl
-count-absent (leaf t) e = let z : _≡_ {A = ℕ} 0 1 = cc in absurd (omega arith)
-count-absent (bracket t) e = let z : _≡_ {A = ℕ} 0 1 = cc in absurd (omega arith)
-count-absent (block ds t) e = let z : _≡_ {A = ℕ} 0 1 = cc in absurd (omega arith)
-count-absent (node l m r) e = let z : _≡_ {A = ℕ} 0 1 = cc in absurd (omega arith)
+count-absent (leaf a) e = impossible cc
+count-absent (bracket t) e = impossible cc
+count-absent (block ds t) e = impossible cc
+count-absent (node l m r) e = impossible cc
 
 five : (n : ℕ) → (5 * n) / 5 ≡ n
 five n = omega arith
 
 -- A leaf is one token.
-leaf-size : (t u : Token) → length (flat (leaf u)) ≡ length (itemTokens (single t))
+leaf-size : (a : Atom) → length (flat (leaf a)) ≡ length (itemTokens (single a))
 unfolding flat itemTokens
-leaf-size t u = refl
+leaf-size a = refl
 
 -- The numbers of items.
 numbers-append : (xs ys : List Item) (i : ℕ)
@@ -167,22 +183,24 @@ module _ (A : Arrays) (text : Bytes) (L : List ℕ) where
       → rootSlot 0 (length (numbersFrom i xs)) (map (slotOfToken A) (numbersFrom i xs)) ≡ rootSlot 0 (length xs) (map (slotOf T) xs)
   fit-root T xs i h = ap₂ (λ n ss. rootSlot 0 n ss) (numbers-length xs i) (fit-slots T xs i h)
 
-  words-count : (t : Tree) (i n : ℕ) → length (words start t i n) / 5 ≡ count t
-  words-count t i n = ap (λ (k : ℕ). k / 5) (words-length start t i n) ∙ five (count t)
+  words-count : (t : Tree) (i n : ℕ) → Operated t → length (words start t i n) / 5 ≡ count t
+  words-count t i n h = ap (λ (k : ℕ). k / 5) (words-length start t i n h) ∙ five (count t)
 
-  -- An operator's node.
-  operator-node : (i base : ℕ) (m : Bytes) (l r : Tree) → length m ≡ getD (A .sizes) i 0
+  -- The node of an operator that has an operand.
+  operator-node : (i base : ℕ) (m : Bytes) (l r : Tree) (g : Fixity) → length m ≡ getD (A .sizes) i 0
+      → fixity (spanTree l) (spanTree r) ≡ some g
       → operatorNode A i (present (spanTree l)) (present (spanTree r)) (base + count l) (base + count l + count r)
-      ≡ nodeWords (operatorKind (fixity (spanTree l) (spanTree r))) (firstChild l r base) (secondChild l r base) (start i) (length m)
-  unfolding operatorNode operatorKind fixity fixityBy firstChild secondChild
-  operator-node i base m l r z = go (present (spanTree l)) refl (present (spanTree r)) refl
+      ≡ operatorWords (fixity (spanTree l) (spanTree r)) (pred (base + count l)) (pred (base + count l + count r)) (start i) (length m)
+  unfolding operatorNode operatorWords fixity fixityBy
+  operator-node i base m l r g z h = go (present (spanTree l)) refl (present (spanTree r)) refl
     where
       go : (a : Bool) → present (spanTree l) ≡ a → (b : Bool) → present (spanTree r) ≡ b
           → operatorNode A i (present (spanTree l)) (present (spanTree r)) (base + count l) (base + count l + count r)
-          ≡ nodeWords (operatorKind (fixity (spanTree l) (spanTree r))) (firstChild l r base) (secondChild l r base) (start i) (length m)
-      go true e true f = rw (e, secondChild, f, z)
-      go true e false f = let n : base + count l + count r ≡ base + count l = omega (arith, count-absent r f) in rw (e, secondChild, f, z, n)
-      go false e b f = let n : base + count l + count r ≡ base + count r = omega (arith, count-absent l e) in rw (e, secondChild, z, n)
+          ≡ operatorWords (fixity (spanTree l) (spanTree r)) (pred (base + count l)) (pred (base + count l + count r)) (start i) (length m)
+      go true e true f = rw (e, f, z)
+      go true e false f = let n : base + count l + count r ≡ base + count l = omega (arith, count-absent r f) in rw (e, f, z, n)
+      go false e true f = rw (e, f, z)
+      go false e false f = let y : none ≡ some g = rw (e, f) at h in impossible cc
 
   -- The words of a part whose tree exists, with enough fuel, and how many tokens the tree has.
   abbrev Same : ℕ → List Item → ℕ → Tree → Type 0
@@ -203,7 +221,7 @@ module _ (A : Arrays) (text : Bytes) (L : List ℕ) where
   span-same : (k : ℕ) → Parts k → (d : ℕ) (T : Table) (from to : ℕ) (t : Tree) → Agrees A text L T from to → to - from < k
       → treeIn d T (tokens A text from to) ≡ some t → SameSpan k from to t
   unfolding treeIn
-  span-same k f zero T from to t h l e = let z : _≡_ {A = ℕ} 0 1 = cc in absurd (omega arith)
+  span-same k f zero T from to t h l e = impossible cc
   span-same k f (suc d) T from to t h l e =
       let xs = items (tokens A text from to) in
       let o = tree-found d T (tokens A text from to) t e in
@@ -223,9 +241,11 @@ module _ (A : Arrays) (text : Bytes) (L : List ℕ) where
   unfolding itemTokens flat words bracketNode
   pair-same k f d T ts i u h l e =
       let n = ap length (h .inside) ∙ length-range text (A .kinds) (A .starts) (A .sizes) (suc i) (h .close) in
-      let w = span-same k f d T (suc i) (h .close) u (h .agrees) (omega (arith, n, length-append ts (closing ∷ []))) (rw (h .inside) at e) in (
-        omega (arith, w .0, n, length-append ts (closing ∷ []), length-append (flat u) (closing ∷ [])),
-        λ base. item-bracket A (rangeIn A k) i base (h .isOpening) ∙ rw (h .closes, w .1 base, words-count u (suc i) base),
+      let w = span-same k f d T (suc i) (h .close) u (h .agrees) (omega (arith, n, length-append ts (structure closing ∷ [])))
+      (rw (h .inside) at e) in (
+        omega (arith, w .0, n, length-append ts (structure closing ∷ []), length-append (flat u) (structure closing ∷ [])),
+        λ base. item-bracket A (rangeIn A k) i base (h .isOpening)
+            ∙ rw (h .closes, w .1 base, words-count u (suc i) base (treeIn-operated d T ts u e)),
       )
 
   scope-same : (k : ℕ) → Parts k → (d : ℕ) (T : Table) (ds ts : List Token) (i : ℕ) (u : Tree) → ScopeFits A text L T i ds ts
@@ -234,8 +254,8 @@ module _ (A : Arrays) (text : Bytes) (L : List ℕ) where
   scope-same k f d T ds ts i u h l e =
       let n = ap length (h .inside) ∙ length-range text (A .kinds) (A .starts) (A .sizes) (suc (h .middle)) (h .close) in
       let o = ap length (h .declared) ∙ length-range text (A .kinds) (A .starts) (A .sizes) (suc i) (h .middle) in
-      let a = length-append (ds ++ keywordIn ∷ ts) (keywordEnd ∷ []) in
-      let b = length-append ds (keywordIn ∷ ts) in
+      let a = length-append (ds ++ structure keywordIn ∷ ts) (structure keywordEnd ∷ []) in
+      let b = length-append ds (structure keywordIn ∷ ts) in
       let w =
       span-same k f d (bodyTable T ds) (suc (h .middle)) (h .close) u (h .agrees) (omega (arith, n, a, b)) (rw (h .inside) at e) in
       let c : suc (i + length ds) ≡ h .middle = omega (arith, o, h .before) in (
@@ -245,19 +265,32 @@ module _ (A : Arrays) (text : Bytes) (L : List ℕ) where
           n,
           a,
           b,
-          length-append (ds ++ keywordIn ∷ flat u) (keywordEnd ∷ []),
-          length-append ds (keywordIn ∷ flat u),
+          length-append (ds ++ structure keywordIn ∷ flat u) (structure keywordEnd ∷ []),
+          length-append ds (structure keywordIn ∷ flat u),
         )),
         λ base. item-block A (rangeIn A k) i base (h .isLet)
-            ∙ rw (h .opens, h .closes, w .1 base, words-count u (suc (h .middle)) base, h .complete, c),
+            ∙ rw (
+              h .opens,
+              h .closes,
+              w .1 base,
+              words-count u (suc (h .middle)) base
+                  (treeIn-operated d (bodyTable T ds) ts u e),
+              h .complete,
+              c,
+            ),
       )
 
   item-same : (k : ℕ) → Parts k → (d : ℕ) (T : Table) (x : Item) (i : ℕ) (t : Tree) → ItemFits A text L T i x
       → length (itemTokens x) ≤ k → hangItem (treeIn d) T x ≡ some t → SameItem k x i t
   unfolding hangItem
-  item-same k f d T (single t₀) i t h l e =
-      let q : t ≡ leaf (token A text i) = let z : t ≡ leaf t₀ = cc in z ∙ ap leaf (h .1) in
-      rw q (leaf-size t₀ (token A text i), λ base. item-token A (rangeIn A k) i base (λ g. omega (arith, h .0 .isContent .1)) (λ g. omega (arith, h .0 .isContent .1)) ∙ leaf-words A text L i base (h .0))
+  item-same k f d T (single a) i t h l e =
+      let q : t ≡ leaf a = cc in
+      rw q (
+        leaf-size a,
+        λ base.
+            item-token A (rangeIn A k) i base (λ g. omega (arith, h .0 .isContent .1)) (λ g. omega (arith, h .0 .isContent .1))
+            ∙ leaf-words A text L i base a (h .0) (h .1),
+      )
   item-same k f d T (pair ts) i t h l e =
       let q = underBracket-some (treeIn d T ts) t e in
       rw (q .2) (pair-same k f d T ts i (q .0) h l (q .1))
@@ -269,9 +302,9 @@ module _ (A : Arrays) (text : Bytes) (L : List ℕ) where
   operator-pieces :
       (inner : List ℕ → ℕ → List ℕ) (before after : List ℕ) (j at base : ℕ) (v w : List ℕ) (m n : ℕ) → length before ≡ at
       → inner before base ≡ v → length v / 5 ≡ m → inner after (base + m) ≡ w → length w / 5 ≡ n
-      → operatorWords A inner (before ++ j ∷ after) at base
+      → rootWords A inner (before ++ j ∷ after) at base
       ≡ v ++ (w ++ operatorNode A j (not (eqb at 0)) (not (isEmpty after)) (base + m) (base + m + n))
-  unfolding operatorWords
+  unfolding rootWords
   operator-pieces inner before after j at base v w m n e p q f g =
       let a : take at (before ++ j ∷ after) ≡ before = take-at _ _ _ e in
       let k : suc at ≡ length before + 1 = omega (arith, e) in
@@ -284,14 +317,16 @@ module _ (A : Arrays) (text : Bytes) (L : List ℕ) where
       (k : ℕ) → Parts k → (d m : ℕ) (T : Table) (before after : List Item) (op : Bytes) (i : ℕ) (l r : SpanTree) (t u : Tree)
       → length (allItemTokens (before ++ single (symbol op) ∷ after)) ≤ k → AllFit A text L T i (before ++ single (symbol op) ∷ after)
       → partTree m T before ≡ some l → partTree m T after ≡ some r → hang (treeIn d) T l ≡ some t → hang (treeIn d) T r ≡ some u
+      → Operated (node t op u)
       → (length (flat (node t op u)) ≡ length (allItemTokens (before ++ single (symbol op) ∷ after)))
-      × ((base : ℕ) → operatorWords A (rangeIn A k) (numbersFrom i (before ++ single (symbol op) ∷ after)) (length before) base
+      × ((base : ℕ) → rootWords A (rangeIn A k) (numbersFrom i (before ++ single (symbol op) ∷ after)) (length before) base
       ≡ words start (node t op u) i base)
   unfolding flat words numbersFrom allItemTokens itemTokens
-  operator-same k f d m T before after op i l r t u fuel fit e g p q =
+  operator-same k f d m T before after op i l r t u fuel fit e g p q has =
       let j = i + length (allItemTokens before) in
       let n : length (allItemTokens (before ++ single (symbol op) ∷ after)) ≡ length (allItemTokens before) + suc (length (allItemTokens after)) =
-      ap length (append-tokens before (single (symbol op) ∷ after)) ∙ length-append (allItemTokens before) (symbol op ∷ allItemTokens after) in
+      ap length (append-tokens before (single (symbol op) ∷ after))
+      ∙ length-append (allItemTokens before) (atom (symbol op) ∷ allItemTokens after) in
       let o : j + 1 ≡ suc j = omega arith in
       let here = fit-right T before (single (symbol op) ∷ after) i fit in
       let behind : AllFit A text L T (suc j) after = rw o at (here .2) in
@@ -299,16 +334,16 @@ module _ (A : Arrays) (text : Bytes) (L : List ℕ) where
       let w = f d m T after (suc j) r u (omega (arith, n)) behind g q in
       let ns : numbersFrom i (before ++ single (symbol op) ∷ after) ≡ numbersFrom i before ++ j ∷ numbersFrom (suc j) after =
       numbers-append before (single (symbol op) ∷ after) i ∙ rw o in
-      let z = symbol-length A text L j op (here .1 .0) (sym (here .1 .1)) in
+      let z = symbol-length A text L j op (here .1 .0) (here .1 .1) in
       let lt : not (eqb (length before) 0) ≡ present (spanTree t) = ap not (length-empty before) ∙ part-present (treeIn d) m T before l t e p in
       let rt : not (isEmpty (numbersFrom (suc j) after)) ≡ present (spanTree u) = ap not (numbers-empty after (suc j)) ∙ part-present (treeIn d) m T after r u g q in (
-        omega (arith, n, length-append (flat t) (symbol op ∷ flat u), v .0, w .0),
+        omega (arith, n, length-append (flat t) (atom (symbol op) ∷ flat u), v .0, w .0),
         λ base.
-            ap (λ ms. operatorWords A (rangeIn A k) ms (length before) base) ns
+            ap (λ ms. rootWords A (rangeIn A k) ms (length before) base) ns
             ∙ operator-pieces (rangeIn A k) (numbersFrom i before) (numbersFrom (suc j) after) j (length before) base
             (words start t i base) (words start u (suc j) (base + count t)) (count t) (count u) (numbers-length before i)
-            (v .1 base) (words-count t i base) (w .1 (base + count t)) (words-count u (suc j) (base + count t))
-            ∙ rw (lt, rt, v .0, operator-node j base op t u z),
+            (v .1 base) (words-count t i base (has .0)) (w .1 (base + count t)) (words-count u (suc j) (base + count t) (has .1))
+            ∙ rw (lt, rt, v .0, operator-node j base op t u (has .2 .0) z (has .2 .1)),
       )
 
   -- Where the search finds no root.
@@ -327,11 +362,11 @@ module _ (A : Arrays) (text : Bytes) (L : List ℕ) where
 
   -- Where it finds one.
   joined-same : (k : ℕ) → Parts k → (d m : ℕ) (T : Table) (x : Item) (xs : List Item) (i : ℕ) (s : SpanTree) (t : Tree) (c : Split)
-      → length (allItemTokens (x ∷ xs)) ≤ k → AllFit A text L T i (x ∷ xs) → rootOf T (x ∷ xs) ≡ some c → yield s ≡ x ∷ xs
+      → length (allItemTokens (x ∷ xs)) ≤ k → AllFit A text L T i (x ∷ xs) → rootOf T (x ∷ xs) ≡ some c → yield s ≡ x ∷ xs → Admitted T s
       → joined T (partTree m T (c .before)) (c .operator) (partTree m T (c .after)) ≡ some s
       → hang (treeIn d) T s ≡ some t → Same (suc k) (x ∷ xs) i t
   unfolding hang numbersFrom yield
-  joined-same k f d m T x xs i s t c fuel fit e y g h =
+  joined-same k f d m T x xs i s t c fuel fit e y a g h =
       let op = c .operator in
       let o = joined-some T (partTree m T (c .before)) op (partTree m T (c .after)) s g in
       let q : hang (treeIn d) T (apply (o .0) op (o .1)) ≡ some t = rw (o .4) at h in
@@ -342,14 +377,15 @@ module _ (A : Arrays) (text : Bytes) (L : List ℕ) where
       sym y ∙ ap yield (o .4) ∙ ap₂ (λ a b. a ++ single (symbol op) ∷ b) yl yr in
       let w =
       operator-same k f d m T (c .before) (c .after) op i (o .0) (o .1) (v .0) (v .1)
-      (rw splits at fuel) (subst (AllFit A text L T i) splits fit) (o .2) (o .3) (v .2) (v .3) in
+      (rw splits at fuel) (subst (AllFit A text L T i) splits fit) (o .2) (o .3) (v .2) (v .3)
+      (subst Operated (v .4) (hang-operated (treeIn d) (treeIn-operated d) T s t a h)) in
       let at = fit-root T (x ∷ xs) i fit ∙ root-slots-some T (x ∷ xs) c e in
       let n = ap length splits ∙ length-append (c .before) (single (symbol op) ∷ c .after) in
       let l : length (c .before) < length (numbersFrom i (x ∷ xs)) = omega (arith, n, numbers-length (x ∷ xs) i) in (
         ap (λ u. length (flat u)) (v .4) ∙ w .0 ∙ ap (λ ys. length (allItemTokens ys)) (sym splits),
         λ base.
             range-operator A k i (numbersFrom (i + length (itemTokens x)) xs) base (omega (arith, at, l))
-            ∙ ap₂ (λ ys p. operatorWords A (rangeIn A k) (numbersFrom i ys) p base) splits at
+            ∙ ap₂ (λ ys p. rootWords A (rangeIn A k) (numbersFrom i ys) p base) splits at
             ∙ w .1 base ∙ ap (λ u. words start u i base) (sym (v .4)),
       )
 
@@ -362,7 +398,8 @@ module _ (A : Arrays) (text : Bytes) (L : List ℕ) where
       go : (o : Option Split) → rootOf T (x ∷ xs) ≡ o → Same (suc k) (x ∷ xs) i t
       go none g = lone-same k f d T x xs i s t fuel fit g (rw (g, partTree) at e) h
       go (some c) g =
-          joined-same k f d m T x xs i s t c fuel fit g (partTree-sound (suc m) T (x ∷ xs) s e .0) (rw (g, partTree) at e) h
+          let sound = partTree-sound (suc m) T (x ∷ xs) s e in
+          joined-same k f d m T x xs i s t c fuel fit g (sound .0) (sound .1) (rw (g, partTree) at e) h
 
   none-same : (k i d : ℕ) (T : Table) (s : SpanTree) (t : Tree) → some missing ≡ some s → hang (treeIn d) T s ≡ some t → Same (suc k) [] i t
   unfolding hang rangeIn words numbersFrom flat allItemTokens
@@ -379,7 +416,7 @@ module _ (A : Arrays) (text : Bytes) (L : List ℕ) where
       × ((base : ℕ) → rangeIn A k (numbersFrom i xs) base ≡ words (λ j. getD (A .starts) j 0) t i base)
   unfolding partTree
   part-words zero d m T xs i s t l fit e h = absurd (omega arith)
-  part-words (suc k) d zero T xs i s t l fit e h = let z : _≡_ {A = ℕ} 0 1 = cc in absurd (omega arith)
+  part-words (suc k) d zero T xs i s t l fit e h = impossible cc
   part-words (suc k) d (suc m) T [] i s t l fit e h = none-same k i d T s t e h
   part-words (suc k) d (suc m) T (x ∷ xs) i s t l fit e h = more-same k (part-words k) d m T x xs i s t (omega arith) fit e h
 
@@ -403,4 +440,5 @@ module _ (A : Arrays) (text : Bytes) (L : List ℕ) where
 
   pub span-count : (k : ℕ) (T : Table) (from to base : ℕ) (t : Tree) → Agrees A text L T from to
       → treeIn k T (tokens A text from to) ≡ some t → length (spanWords A from to base) ≡ 5 * count t
-  span-count k T from to base t h e = ap length (span-words k T from to base t h e) ∙ words-length start t from base
+  span-count k T from to base t h e =
+      ap length (span-words k T from to base t h e) ∙ words-length start t from base (treeIn-operated k T (tokens A text from to) t e)

@@ -13,10 +13,21 @@ use Rattle.grammar.specs.Nodes.{nodeWords}
 use Rattle.nesting.proofs.PairedCases.{paired-ordered}
 use Rattle.layout.specs.Filled.{itemNumbers}
 use Rattle.search.specs.Slots.{rootSlot}
-use Rattle.tree.specs.Built.{slotOfToken, itemWords, operatorWords, rangeIn, spanWords}
+use Rattle.tree.specs.Built.{slotOfToken, itemWords, rootWords, rangeIn, spanWords}
 use Rattle.node.specs.NodeWords.{Arrays, tokenNode, bracketNode, blockNode, operatorNode}
-use Rattle.tree.specs.Building.{tokensOf, cover, partWords, leafWords, SpanAt, ItemAt, Items, none, more}
-use Rattle.tree.proofs.Covers.{cover-more, tokens-some, items-take, items-drop, item-of, cover-split, Spread, spread, tokens-bracket, tokens-block}
+use Rattle.tree.specs.Building.{tokenCount, cover, partWords, leafWords, SpanAt, ItemAt, Items, none, more}
+use Rattle.tree.proofs.Covers.{
+  cover-more,
+  tokens-some,
+  items-take,
+  items-drop,
+  item-of,
+  cover-split,
+  Spread,
+  spread,
+  tokens-bracket,
+  tokens-block,
+}
 
 -- A node has five words.
 pub token-size : (A : Arrays) (i : ℕ) → length (tokenNode A i) ≡ 5
@@ -80,7 +91,7 @@ module _ (A : Arrays) where
 
   -- What agrees within an item, agrees on it.
   item-same : (f g : List ℕ → ℕ → List ℕ) (i base : ℕ) → ItemAt A i
-      → ((ns : List ℕ) → Items A ns → cover A ns < tokensOf A i → (b : ℕ) → f ns b ≡ g ns b)
+      → ((ns : List ℕ) → Items A ns → cover A ns < tokenCount A i → (b : ℕ) → f ns b ≡ g ns b)
       → itemWords A f i base ≡ itemWords A g i base
   item-same f g i base h s =
       by-kind i
@@ -95,8 +106,8 @@ module _ (A : Arrays) where
       (λ e k. item-token f i base e k ∙ sym (item-token g i base e k))
 
   item-bound : (f : List ℕ → ℕ → List ℕ) (i base : ℕ) → ItemAt A i
-      → ((ns : List ℕ) → Items A ns → cover A ns < tokensOf A i → (b : ℕ) → length (f ns b) ≤ 5 * cover A ns)
-      → length (itemWords A f i base) ≤ 5 * tokensOf A i
+      → ((ns : List ℕ) → Items A ns → cover A ns < tokenCount A i → (b : ℕ) → length (f ns b) ≤ 5 * cover A ns)
+      → length (itemWords A f i base) ≤ 5 * tokenCount A i
   unfolding bracketNode blockNode nodeWords
   item-bound f i base h s =
       by-kind i
@@ -123,13 +134,13 @@ module _ (A : Arrays) where
       (λ e k. omega (arith, ap length (item-token f i base e k), token-size A i, tokens-some A i h))
 
   operator-same : (f g : List ℕ → ℕ → List ℕ) (ns : List ℕ) (at base : ℕ) → ((b : ℕ) → f (take at ns) b ≡ g (take at ns) b)
-      → ((b : ℕ) → f (drop (suc at) ns) b ≡ g (drop (suc at) ns) b) → operatorWords A f ns at base ≡ operatorWords A g ns at base
-  unfolding operatorWords
+      → ((b : ℕ) → f (drop (suc at) ns) b ≡ g (drop (suc at) ns) b) → rootWords A f ns at base ≡ rootWords A g ns at base
+  unfolding rootWords
   operator-same f g ns at base p q = rw (p base, q (base + length (g (take at ns) base) / 5))
 
   operator-bound : (f : List ℕ → ℕ → List ℕ) (ns : List ℕ) (at base a b : ℕ) → ((k : ℕ) → length (f (take at ns) k) ≤ a)
-      → ((k : ℕ) → length (f (drop (suc at) ns) k) ≤ b) → length (operatorWords A f ns at base) ≤ a + b + 5
-  unfolding operatorWords
+      → ((k : ℕ) → length (f (drop (suc at) ns) k) ≤ b) → length (rootWords A f ns at base) ≤ a + b + 5
+  unfolding rootWords
   operator-bound f ns at base a b p q =
       let l = f (take at ns) base in
       let r = f (drop (suc at) ns) (base + length l / 5) in
@@ -138,9 +149,9 @@ module _ (A : Arrays) where
       omega (arith, length-append l (r ++ o), length-append r o, n, p base, q (base + length l / 5))
 
   pub operator-length : (f : List ℕ → ℕ → List ℕ) (ns : List ℕ) (at base : ℕ)
-      → length (operatorWords A f ns at base)
+      → length (rootWords A f ns at base)
       ≡ length (f (take at ns) base) + (length (f (drop (suc at) ns) (base + length (f (take at ns) base) / 5)) + 5)
-  unfolding operatorWords
+  unfolding rootWords
   operator-length f ns at base =
       let l = f (take at ns) base in
       let r = f (drop (suc at) ns) (base + length l / 5) in
@@ -155,7 +166,7 @@ module _ (A : Arrays) where
   range-item k i ns base l = rw (le-leb _ _ l, rangeIn)
 
   pub range-operator : (k i : ℕ) (ns : List ℕ) (base : ℕ) → rootOf (i ∷ ns) < length (i ∷ ns)
-      → rangeIn A (suc k) (i ∷ ns) base ≡ operatorWords A (rangeIn A k) (i ∷ ns) (rootOf (i ∷ ns)) base
+      → rangeIn A (suc k) (i ∷ ns) base ≡ rootWords A (rangeIn A k) (i ∷ ns) (rootOf (i ∷ ns)) base
   unfolding rangeIn
   range-operator k i ns base l = rw (lt-leb _ _ l, rangeIn)
 
@@ -250,7 +261,7 @@ module _ (A : Arrays) where
       (λ ms hm c b. fuel (cover A (i ∷ ns)) (suc (cover A ms)) ms b hm (omega (arith, cover-more A i ns)) (omega arith))
 
   pub part-operator : {ns : List ℕ} (base : ℕ) → Items A ns → rootOf ns < length ns
-      → partWords A ns base ≡ operatorWords A (partWords A) ns (rootOf ns) base
+      → partWords A ns base ≡ rootWords A (partWords A) ns (rootOf ns) base
   unfolding partWords Agrees
   part-operator base none l = absurd (omega arith)
   part-operator base (more {i} {ns} h hs) l =
@@ -315,9 +326,9 @@ module _ (A : Arrays) where
   -- The words of an operator's part, with the numbers of nodes of its operands.
   pub operator-words : (ns : List ℕ) (at base l r : ℕ) (left right : List ℕ)
       → left ≡ partWords A (take at ns) base → length left ≡ l * 5 → right ≡ partWords A (drop (suc at) ns) (base + l) → length right ≡ r * 5
-      → operatorWords A (partWords A) ns at base
+      → rootWords A (partWords A) ns at base
       ≡ left ++ (right ++ operatorNode A (getD ns at 0) (not (eqb at 0)) (not (isEmpty (drop (suc at) ns))) (base + l) (base + l + r))
-  unfolding operatorWords
+  unfolding rootWords
   operator-words ns at base l r left right e m f n =
       let a : length left / 5 ≡ l = omega arith in
       let b : length right / 5 ≡ r = omega arith in

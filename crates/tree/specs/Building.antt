@@ -16,12 +16,12 @@ unfoldable pub entries : List ℕ → ℕ → ℕ → List ℕ
 entries M from to = drop from (take to M)
 
 -- How many tokens an item takes, and items do.
-unfoldable pub tokensOf : Arrays → ℕ → ℕ
-tokensOf A i = behindItem (A .kinds) (A .closes) i - i
+unfoldable pub tokenCount : Arrays → ℕ → ℕ
+tokenCount A i = behindItem (A .kinds) (A .closes) i - i
 
 unfoldable pub cover : Arrays → List ℕ → ℕ
 cover A [] = 0
-cover A (i ∷ ns) = tokensOf A i + cover A ns
+cover A (i ∷ ns) = tokenCount A i + cover A ns
 
 -- The words of items, and of one item that is no operator.
 unfoldable pub partWords : Arrays → List ℕ → ℕ → List ℕ
@@ -31,7 +31,7 @@ unfoldable pub leafWords : Arrays → ℕ → ℕ → List ℕ
 leafWords A i base = itemWords A (partWords A) i base
 
 -- Where tokens stand: a quoted name is at least as long as its two quotes, and a block's `let` does not start behind the end of its `in`.
-pub record Placed (A : Arrays) (from to : ℕ) : Type 0 where
+pub record RangeStands (A : Arrays) (from to : ℕ) : Type 0 where
   pub quotes : (i : ℕ) → from ≤ i → i < to → getD (A .kinds) i 0 ≡ 3 → 2 ≤ getD (A .sizes) i 0
   pub blocks : (i : ℕ) → from ≤ i → i < to → getD (A .kinds) i 0 ≡ 7
       → getD (A .starts) i 0 ≤ getD (A .starts) (getD (A .closes) i 0) 0 + 2
@@ -40,7 +40,7 @@ pub record Placed (A : Arrays) (from to : ℕ) : Type 0 where
 pub record SpanAt (A : Arrays) (from to : ℕ) : Type 0 where
   pub inArrays : to ≤ 1024
   pub paired : Paired (A .kinds) (A .closes) from to
-  pub placed : Placed A from to
+  pub placed : RangeStands A from to
 
 -- An item that begins at token `i`: what stands in a bracket pair, and in a block behind its `in`, is a span.
 pub record ItemAt (A : Arrays) (i : ℕ) : Type 0 where
@@ -90,9 +90,9 @@ pub record Leafable (A : Arrays) (M P F Q : List ℕ) (i free : ℕ) (N : List �
   pub whole : Whole M P F Q
   pub item : ItemAt A i
   pub inArrays : free ≤ 1024
-  pub scratch : free + tokensOf A i ≤ 1025
+  pub scratch : free + tokenCount A i ≤ 1025
   pub room : length (leafWords A i base) ≤ length N
-  pub few : base + tokensOf A i ≤ 4096
+  pub few : base + tokenCount A i ≤ 4096
 
 -- The words `w` are written, `r` nodes, and the item arrays keep their entries below `free`.
 pub record Written (w N N′ : List ℕ) (r free : ℕ) (M P F Q M′ P′ F′ Q′ : List ℕ) : Type 0 where

@@ -31,8 +31,8 @@ module _ (A : Arrays) where
       ]
 
   -- The items `ns` of a part of a span, by the numbers of their first tokens, of which entry `at` is the root.
-  unfoldable pub operatorWords : (List ℕ → ℕ → List ℕ) → List ℕ → ℕ → ℕ → List ℕ
-  operatorWords inner ns at base =
+  unfoldable pub rootWords : (List ℕ → ℕ → List ℕ) → List ℕ → ℕ → ℕ → List ℕ
+  rootWords inner ns at base =
       let l = inner (take at ns) base in
       let r = inner (drop (suc at) ns) (base + length l / 5) in
       l ++ (r ++ operatorNode A (getD ns at 0) (not (eqb at 0)) (not (isEmpty (drop (suc at) ns))) (base + length l / 5) (base + length l / 5 + length r / 5))
@@ -44,7 +44,7 @@ module _ (A : Arrays) where
   rangeIn (suc k) (i ∷ ns) base =
       elim (leb (length (i ∷ ns)) (rootSlot 0 (length (i ∷ ns)) (map slotOfToken (i ∷ ns)))) [
         | true ↦ itemWords (rangeIn k) i base
-        | false ↦ operatorWords (rangeIn k) (i ∷ ns) (rootSlot 0 (length (i ∷ ns)) (map slotOfToken (i ∷ ns))) base
+        | false ↦ rootWords (rangeIn k) (i ∷ ns) (rootSlot 0 (length (i ∷ ns)) (map slotOfToken (i ∷ ns))) base
       ]
 
   -- The words of the span of the tokens from `from` to `to`.

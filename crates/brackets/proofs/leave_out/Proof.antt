@@ -4,7 +4,7 @@ use Prim.Native.Nat.{_-_, _<_}
 use native.Mathlib.Omega.{arith}
 use lib.ListN.{getD}
 use borrow.Author.Tests.{not-true, not-false}
-use Rattle.brackets.proofs.Turns.{Turned, Found, turns-start, turns-end, turn-passes, turn-closes, turn-keeps, turn-drops}
+use Rattle.brackets.proofs.BracketLoop.{Turned, Found, turns-start, turns-end, turn-passes, turn-closes, turn-keeps, turn-drops}
 use Rattle.brackets.proofs.leave_out.Statement.{statement}
 use Rattle.brackets.proofs.leave_out.Tie as tie
 

@@ -1,8 +1,7 @@
 -- What the scanner finds at the front of the name decides. Assumes nothing.
-use mathlib.Core.Path.{_≡_, sym, ap, _∙_}
-use Prim.Native.Nat.{ℕ}
-use native.Mathlib.Omega.{arith}
+use mathlib.Core.Path.{sym, ap, _∙_}
 use borrow.Author.Needs.{needs}
+use Rattle.grammar.proofs.Logic.{impossible}
 use Rattle.scan.specs.declared.tokens.Front.the-variants.{Taken}
 use Rattle.pieces.proofs.Symbols.{bare-taken, bare-not}
 use Rattle.pieces.proofs.is_symbol.Statement.{statement}
@@ -34,12 +33,12 @@ returns-2 c =
 returns-3 : tie.Need-returns-3
 returns-3 c =
     let f = sym (c .before .before .front-at .ensures) ∙ c .enum-told .given .1 in
-    bare-not _ (λ e. let z : _≡_ {A = ℕ} 0 1 = cc in omega arith)
+    bare-not _ (λ e. impossible cc)
 
 returns-4 : tie.Need-returns-4
 returns-4 c =
     let f = sym (c .before .before .front-at .ensures) ∙ c .enum-told2 .given .1 in
-    bare-not _ (λ e. let z : _≡_ {A = ℕ} 0 1 = cc in omega arith)
+    bare-not _ (λ e. impossible cc)
 
 pub is-symbol-spec : {M : Type 1} → statement M
 is-symbol-spec =

@@ -3,7 +3,7 @@ use Prim.Native.Nat.{_≤_}
 use native.Mathlib.Omega.{arith}
 use borrow.Author.Needs.{needs}
 use lib.ListN.{length}
-use Rattle.pieces.proofs.Parts.{piece-short}
+use Rattle.pieces.proofs.TokenPieces.{piece-short}
 use Rattle.pieces.proofs.Puts.{length-none, length-space}
 use Rattle.pieces.proofs.next_len.Statement.{statement}
 use Rattle.pieces.proofs.next_len.Tie as tie

@@ -4,7 +4,7 @@ use mathlib.Core.Logic.{⊎-elim}
 use borrow.Author.Needs.{needs}
 use Rattle.grammar.specs.Token.{isSymbol}
 use Rattle.pieces.specs.Joined.{stripped}
-use Rattle.pieces.proofs.Parts.{piece-number, piece-bare, piece-whole}
+use Rattle.pieces.proofs.TokenPieces.{piece-number, piece-bare, piece-whole}
 use Rattle.pieces.proofs.piece.Statement.{statement}
 use Rattle.pieces.proofs.piece.Tie as tie
 

@@ -1,5 +1,5 @@
 -- The measure is the length of the range, and the inside of a bracket pair or block is shorter. The loop's invariant is `Progress`: the
--- checks and the numbers of all items are those of the items from `i` on. Each turn takes one item, and `Turns` says what it answers or
+-- checks and the numbers of all items are those of the items from `i` on. Each turn takes one item, and `ItemLoop` says what it answers or
 -- how it goes on. Assumes nothing.
 use Prim.Native.Nat.{ℕ, _<_, _+_, _-_}
 use mathlib.Core.Path.{_≡_, refl, sym, subst, _∙_}
@@ -20,7 +20,7 @@ use Rattle.resolve.specs.Resolved.{tableBy}
 use Rattle.resolve.specs.declared.Class.{Class}
 use Rattle.resolve.specs.declared.Class.the-variants.{Operator}
 use Rattle.resolve.proofs.Numbers.{Says, found-says}
-use Rattle.resolve.proofs.Turns.{
+use Rattle.resolve.proofs.ItemLoop.{
   Progress,
   begins,
   finished,

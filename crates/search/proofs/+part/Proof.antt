@@ -9,16 +9,8 @@ use borrow.Fn.Kinds.{In}
 use borrow.Fn.PlainCycle.{Measures, is, falls, and}
 use Rattle.search.specs.Slots.{slot, roleIn, joinedCode, overParts, partCode}
 use Rattle.search.proofs.Ranges.{range}
-use Rattle.search.proofs.Parts.{over-left, over-right, over-both}
-use Rattle.search.proofs.PartRanges.{
-  range-empty,
-  range-operand,
-  range-operands,
-  range-step,
-  root-begins,
-  hint-before,
-  hint-after,
-}
+use Rattle.search.proofs.SlotTrees.{over-left, over-right, over-both}
+use Rattle.search.proofs.PartRanges.{range-empty, range-operand, range-operands, range-step, root-begins, hint-before, hint-after}
 use Rattle.search.proofs.part.Reads as part
 use Rattle.search.proofs.part.Kinds as part-kinds
 use Rattle.search.proofs.+part.Lts-part as part-lts

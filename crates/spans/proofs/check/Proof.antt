@@ -5,7 +5,7 @@ use Prim.Native.Nat.{_-_}
 use native.Mathlib.Omega.{arith}
 use borrow.Author.Needs.{needs}
 use Rattle.node.specs.NodeWords.{arrays}
-use Rattle.spans.proofs.Steps.{
+use Rattle.spans.proofs.SpanChecks.{
   Checking,
   text-fills,
   text-none,

@@ -1,7 +1,7 @@
 -- The items are filled in and searched: the nodes are 0 without a tree, else the number of items; the root is what the search answers.
 use native.Mathlib.Omega.{arith}
 use borrow.Author.Needs.{needs}
-use Rattle.spans.proofs.Steps.{filled-few, part-asks, root-found, nodes-none, nodes-some}
+use Rattle.spans.proofs.SpanChecks.{filled-few, part-asks, root-found, nodes-none, nodes-some}
 use Rattle.spans.proofs.nodes_of.Statement.{statement}
 use Rattle.spans.proofs.nodes_of.Tie as tie
 

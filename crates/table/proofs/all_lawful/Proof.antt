@@ -6,7 +6,7 @@ use borrow.Author.Needs.{needs}
 use Rattle.grammar.specs.Operator.{lawfulTable}
 use Rattle.table.specs.Entries.{operatorsFrom}
 use Rattle.table.proofs.Roles.{failed, held}
-use Rattle.table.proofs.Laws.{lawful-all, lawful-not, lawful-next, lawful-end}
+use Rattle.table.proofs.TableEntries.{lawful-all, lawful-not, lawful-next, lawful-end}
 use Rattle.table.proofs.all_lawful.Statement.{statement}
 use Rattle.table.proofs.all_lawful.Tie as tie
 

@@ -3,7 +3,7 @@ use mathlib.Core.Path.{_≡_, sym, _∙_}
 use Prim.Native.Nat.{_-_, _≤_}
 use borrow.Author.Needs.{needs}
 use Rattle.table.specs.Entries.{codedFind}
-use Rattle.table.proofs.Laws.{find-all, find-here, find-next, find-none}
+use Rattle.table.proofs.TableEntries.{find-all, find-here, find-next, find-none}
 use Rattle.table.proofs.find.Statement.{statement}
 use Rattle.table.proofs.find.Tie as tie
 

@@ -2,7 +2,7 @@
 use mathlib.Core.Path.{sym, ap, _∙_}
 use borrow.Author.Needs.{needs}
 use Rattle.table.specs.Entries.{codedFind}
-use Rattle.table.proofs.Laws.{name-in-text}
+use Rattle.table.proofs.TableEntries.{name-in-text}
 use Rattle.table.proofs.find_at.Statement.{statement}
 use Rattle.table.proofs.find_at.Tie as tie
 

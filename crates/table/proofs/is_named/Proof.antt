@@ -1,7 +1,7 @@
 -- The two arms are those of `nameIn`: the part that is cut out of the text, or of the starting names. Assumes nothing.
 use mathlib.Core.Path.{sym, ap, _∙_}
 use Rattle.grammar.specs.Bytes.{same}
-use Rattle.table.proofs.Laws.{name-in-text, name-at-start}
+use Rattle.table.proofs.TableEntries.{name-in-text, name-at-start}
 use borrow.Author.Needs.{needs}
 use Rattle.table.proofs.is_named.Statement.{statement}
 use Rattle.table.proofs.is_named.Tie as tie

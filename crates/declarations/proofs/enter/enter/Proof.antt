@@ -1,5 +1,5 @@
 -- The loop's invariant is `Progress`, whatever lists hold the tokens' kinds and lengths: the checks of all tokens answer what those of
--- the tokens from `at` on answer, under the table so far. Each turn reads one declaration, and `Turns` says what it answers or how it
+-- the tokens from `at` on answer, under the table so far. Each turn reads one declaration, and `DeclarationLoop` says what it answers or how it
 -- goes on. Assumes nothing.
 use mathlib.Core.Path.{_≡_, refl, sym, ap, _∙_}
 use mathlib.Core.List.{List}
@@ -13,8 +13,8 @@ use Rattle.table.specs.Entries.{nameIn}
 use Rattle.declarations.specs.Entering.{InText}
 use Rattle.declarations.proofs.Unfit.{unfit-bound}
 use Rattle.declarations.proofs.Looks.{seen-found}
-use Rattle.declarations.proofs.Steps.{DeclarationAt, RoleAt, entered-unfit, role-at, clears-at}
-use Rattle.declarations.proofs.Turns.{
+use Rattle.declarations.proofs.TokenDeclarations.{DeclarationAt, RoleAt, entered-unfit, role-at, clears-at}
+use Rattle.declarations.proofs.DeclarationLoop.{
   Progress,
   answers,
   declared-over,

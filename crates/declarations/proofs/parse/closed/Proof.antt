@@ -1,7 +1,7 @@
 -- The tests are those of `expected`. Assumes nothing.
 use mathlib.Core.Path.{sym, ap}
 use borrow.Author.Needs.{needs}
-use Rattle.declarations.proofs.Parts.{expected-end, expected-here, expected-other}
+use Rattle.declarations.proofs.DeclarationParts.{expected-end, expected-here, expected-other}
 use Rattle.declarations.proofs.parse.closed.Statement.{statement}
 use Rattle.declarations.proofs.parse.closed.Tie as tie
 

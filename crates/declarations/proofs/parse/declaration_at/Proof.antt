@@ -7,7 +7,7 @@ use Prim.Native.Nat.{ℕ, _+_}
 use native.Mathlib.Numerals.{add-one}
 use native.Mathlib.Omega.{arith}
 use borrow.Author.Needs.{needs}
-use Rattle.grammar.specs.Token.{Token, number}
+use Rattle.grammar.specs.Token.{Token, atom, number}
 use Rattle.grammar.specs.Bytes.{Bytes, same}
 use Rattle.grammar.specs.Coded.{tokenOf, fixityOf, associativityOf}
 use Rattle.grammar.specs.Declaration.{Parsed, clears, plainWord, symbolOf, declaration, firstWord, associativityPart, precedencePart}
@@ -16,7 +16,7 @@ use Rattle.declarations.specs.declared.parse.Parsed.the-variants.{Clears
 use Rattle.declarations.specs.Parses.{precedenceCode, fixityNumber, associativityNumber, codedParsed, codedDeclaration}
 use Rattle.declarations.proofs.Precedences.{precedence-bound, precedence-empty}
 use Rattle.declarations.proofs.Words.{associativity-bound, fixity-empty, associativity-empty}
-use Rattle.declarations.proofs.Parts.{
+use Rattle.declarations.proofs.DeclarationParts.{
   tokens,
   tokens-read,
   part-end,
@@ -115,7 +115,7 @@ module _ (K Z : List ℕ) where
       precedencePart
       (fixityOf (fixity (second (a .before))))
       (associativityOf (associativity a))
-      (number (c .before .before .bytes-of3 .result .now) ∷ ts))
+      (atom (number (c .before .before .bytes-of3 .result .now)) ∷ ts))
       3
   unfolding tokenOf
   with-digits c f =

@@ -1,7 +1,7 @@
 -- The tests are those of `expected`, and then those of `closed`. Assumes nothing.
 use mathlib.Core.Path.{sym, ap, _∙_}
 use borrow.Author.Needs.{needs}
-use Rattle.declarations.proofs.Parts.{expected-end, expected-here, expected-other}
+use Rattle.declarations.proofs.DeclarationParts.{expected-end, expected-here, expected-other}
 use Rattle.declarations.proofs.parse.operator_part.Statement.{statement}
 use Rattle.declarations.proofs.parse.operator_part.Tie as tie
 

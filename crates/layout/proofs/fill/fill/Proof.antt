@@ -5,7 +5,7 @@ use Prim.Native.Nat.{_-_}
 use native.Mathlib.Numerals.{add-one}
 use native.Mathlib.Omega.{arith}
 use Rattle.layout.specs.Filled.{behindItem}
-use Rattle.layout.proofs.Laws.{
+use Rattle.layout.proofs.ItemWalks.{
   behind-content,
   behind-bracket,
   behind-block,

@@ -5,13 +5,13 @@ use Prim.Native.Nat.{ℕ}
 use lib.Dec.{eqb}
 use borrow.Author.Needs.{needs}
 use borrow.Author.Tests.{le-leb, lt-leb, eq-eqb, ne-eqb}
-use Rattle.grammar.specs.Token.{class as classOf, within, inWord, inQuotes}
+use Rattle.grammar.specs.Token.{class as classOf, between, inWord, inQuotes}
 use Rattle.scan.specs.Runs.{goesOn}
 use Rattle.scan.proofs.bytes.goes_on.Statement.{statement}
 use Rattle.scan.proofs.bytes.goes_on.Tie as tie
 
 module _ (kind b : ℕ) where
-  in-quotes : kind ≡ 5 → goesOn kind b ≡ within 32 126 b && not (eqb b 39)
+  in-quotes : kind ≡ 5 → goesOn kind b ≡ between 32 126 b && not (eqb b 39)
   unfolding goesOn inQuotes
   in-quotes k = rw (eq-eqb kind 5 k, goesOn)
 

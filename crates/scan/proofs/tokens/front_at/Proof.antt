@@ -10,6 +10,7 @@ use Rattle.scan.proofs.Fronts.{front-nothing, front-class, front-quote,
 use borrow.Author.Needs.{needs}
 use Rattle.scan.proofs.tokens.front_at.Statement.{statement}
 use Rattle.scan.proofs.tokens.front_at.Tie as tie
+use Rattle.grammar.specs.Token.{structureNumber}
 
 -- The front of the text from `at` on, where the byte there is of class `k`.
 opened
@@ -61,15 +62,15 @@ returns-5 c =
     c .quoted .ensures ∙ sym (opened (c .before .before) 5 (c .before .match .keys4) ∙ ap codedFront (front-quote (a .text .now) (a .at)))
 
 returns-6 : tie.Need-returns-6
-unfolding frontOf codedFront kindOf
+unfolding frontOf codedFront kindOf structureNumber
 returns-6 c = sym (opened (c .before) 6 (c .match .keys5))
 
 returns-7 : tie.Need-returns-7
-unfolding frontOf codedFront kindOf
+unfolding frontOf codedFront kindOf structureNumber
 returns-7 c = sym (opened (c .before) 7 (c .match .keys6))
 
 returns-8 : tie.Need-returns-8
-unfolding frontOf codedFront kindOf
+unfolding frontOf codedFront kindOf structureNumber
 returns-8 c = sym (opened (c .before) 8 (c .match .keys7))
 
 returns-9 : tie.Need-returns-9

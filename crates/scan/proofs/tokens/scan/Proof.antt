@@ -3,10 +3,10 @@ use mathlib.Core.Path.{sym, _∙_}
 use Prim.Native.Nat.{_-_}
 use native.Mathlib.Omega.{arith}
 use borrow.Author.Needs.{needs}
-use Rattle.grammar.specs.Answer.{mostTokens}
 use Rattle.scan.proofs.Scans.{Scans, begun, at-within, at-end, at-wrong, taken-size, next-within, at-full, at-next}
 use Rattle.scan.proofs.tokens.scan.Statement.{statement}
 use Rattle.scan.proofs.tokens.scan.Tie as tie
+use Rattle.grammar.specs.Fault.{mostTokens}
 
 abbrev Inv-loop : tie.InvT-loop
 Inv-loop text kinds₀ starts₀ sizes₀ n₀ e₀ kinds starts sizes n e = Scans text kinds₀ starts₀ sizes₀ kinds starts sizes n e

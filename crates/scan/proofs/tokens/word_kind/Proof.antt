@@ -7,24 +7,25 @@ use Rattle.grammar.specs.Coded.{kindOf}
 use borrow.Author.Needs.{needs}
 use Rattle.scan.proofs.tokens.word_kind.Statement.{statement}
 use Rattle.scan.proofs.tokens.word_kind.Tie as tie
+use Rattle.grammar.specs.Token.{structureNumber}
 
 module _ (w : Bytes) where
   kind-let : same w (bytes "let") ≡ true → kindOf (keywordOrSymbol w) ≡ 7
-  unfolding keywordOrSymbol kindOf
+  unfolding keywordOrSymbol kindOf structureNumber
   kind-let e = rw (e, keywordOrSymbol)
 
   module _ (e : same w (bytes "let") ≡ false) where
     kind-in : same w (bytes "in") ≡ true → kindOf (keywordOrSymbol w) ≡ 8
-    unfolding keywordOrSymbol kindOf
+    unfolding keywordOrSymbol kindOf structureNumber
     kind-in h = rw (e, h, keywordOrSymbol)
 
     module _ (h : same w (bytes "in") ≡ false) where
       kind-end : same w (bytes "end") ≡ true → kindOf (keywordOrSymbol w) ≡ 9
-      unfolding keywordOrSymbol kindOf
+      unfolding keywordOrSymbol kindOf structureNumber
       kind-end g = rw (e, h, g, keywordOrSymbol)
 
       kind-symbol : same w (bytes "end") ≡ false → kindOf (keywordOrSymbol w) ≡ 1
-      unfolding keywordOrSymbol kindOf
+      unfolding keywordOrSymbol kindOf structureNumber
       kind-symbol g = rw (e, h, g, keywordOrSymbol)
 
 not-let : (c : tie.Else1) → same (c .before .before .before .before .args .word .now) (bytes "let") ≡ false

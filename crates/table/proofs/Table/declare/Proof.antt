@@ -2,7 +2,7 @@
 use mathlib.Core.Path.{sym, _∙_}
 use native.Mathlib.Omega.{arith}
 use borrow.Author.Needs.{needs}
-use Rattle.table.proofs.Laws.{Long}
+use Rattle.table.proofs.TableEntries.{Long}
 use Rattle.table.proofs.Tables.{found-below, declared-at, free-entry, declared-behind}
 use Rattle.table.proofs.Table.declare.Statement.{statement}
 use Rattle.table.proofs.Table.declare.Tie as tie

@@ -6,7 +6,7 @@ use borrow.Author.Needs.{needs}
 use Rattle.grammar.specs.Operator.{Operator, Prefix, Infix, Postfix, replaced, sameFixity, declareRole}
 use Rattle.grammar.specs.Operator as G
 use Rattle.grammar.specs.Bytes.{same}
-use Rattle.grammar.specs.Declaration.{value, valueFrom, declare, declareAll, startDeclarations, start}
+use Rattle.grammar.specs.Declaration.{value, valueFrom, declare, declareAll, startDeclarations, startTable}
 use Rattle.grammar.specs.Coded.{associativityCode, associativityOf, roleCode, roleOf, rolesOf}
 use Rattle.table.specs.Entries.{nameIn, operatorsFrom, tableOf}
 use Rattle.table.proofs.Codes.{areCodes, starting-coded}
@@ -21,7 +21,7 @@ and :
 and n p i q e = ap₂ _∷_ (operators-equal n (roles-equal _ _ p i q)) e
 
 returns : tie.Need-returns
-unfolding areCodes associativityCode roleCode nameIn operatorsFrom tableOf start startDeclarations declareAll declare declareRole same replaced sameFixity value valueFrom rolesOf roleOf associativityOf
+unfolding areCodes associativityCode roleCode nameIn operatorsFrom tableOf startTable startDeclarations declareAll declare declareRole same replaced sameFixity value valueFrom rolesOf roleOf associativityOf
 returns c =
     starting-coded _ (omega arith) refl refl refl
     (λ text.

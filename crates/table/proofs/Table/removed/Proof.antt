@@ -5,7 +5,7 @@ use native.Mathlib.Omega.{arith}
 use borrow.Author.Needs.{needs}
 use Rattle.table.specs.declared.Table.{Table}
 use Rattle.table.specs.Entries.{Moved}
-use Rattle.table.proofs.Laws.{Long, moved-next, moved-all}
+use Rattle.table.proofs.TableEntries.{Long, moved-next, moved-all}
 use Rattle.table.proofs.Table.removed.Statement.{statement}
 use Rattle.table.proofs.Table.removed.Tie as tie
 

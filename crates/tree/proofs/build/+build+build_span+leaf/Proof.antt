@@ -1,13 +1,13 @@
 -- The three functions of the builder meet their contracts. The measure is the tokens of the part, three times, so that a span comes
--- before its items and these before one item. What each call asks, and what the calls leave, are the laws of `Steps`.
+-- before its items and these before one item. What each call asks, and what the calls leave, are the laws of `ItemBuilding`.
 use Prim.Native.Nat.{ℕ, _<_, _-_, _+_, _*_}
 use mathlib.Core.Path.{refl, ap}
 use native.Mathlib.Omega.{arith}
 use lib.ListN.{getD}
 use borrow.Author.Needs.{needs}
-use Rattle.tree.specs.Building.{entries, tokensOf, cover}
+use Rattle.tree.specs.Building.{entries, tokenCount, cover}
 use Rattle.node.specs.NodeWords.{arrays}
-use Rattle.tree.proofs.Steps.{
+use Rattle.tree.proofs.ItemBuilding.{
   build-none,
   leaf-falls,
   leaf-asks,
@@ -73,7 +73,7 @@ abbrev μ-build-span : Measures 12 build-span-kinds.ps ℕ
 
 abbrev μ-leaf : Measures 12 leaf-kinds.ps ℕ
 μ-leaf κs a =
-    3 * tokensOf (arrays (a .0 .now) (a .1 .0 .now) (a .1 .1 .0 .now) (a .1 .1 .1 .0 .now) (a .1 .1 .1 .1 .0 .now) (a .1 .1 .1 .1 .1 .0 .now) (a .1 .1 .1 .1 .1 .1 .0 .now)) (a .1 .1 .1 .1 .1 .1 .1 .1 .1 .1 .1 .0)
+    3 * tokenCount (arrays (a .0 .now) (a .1 .0 .now) (a .1 .1 .0 .now) (a .1 .1 .1 .0 .now) (a .1 .1 .1 .1 .0 .now) (a .1 .1 .1 .1 .1 .0 .now) (a .1 .1 .1 .1 .1 .1 .0 .now)) (a .1 .1 .1 .1 .1 .1 .1 .1 .1 .1 .1 .0)
 
 abbrev build-at : ℕ → In 12 build-kinds.ps
 build-at t = and 12 build-kinds.ps (is 12 build-kinds.ps μ-build t) build.Pre

@@ -10,8 +10,9 @@ use lib.Dec.{eqb}
 use borrow.Author.Tests.{eq-eqb, ne-eqb, eqb-true, eqb-false}
 use lib.ListN.{length, getD, set}
 use lib.Seq.{sets, length-sets}
+use Rattle.grammar.proofs.Logic.{impossible}
 use Rattle.layout.specs.Filled.{itemNumbers, pick, Fillable, Filled}
-use Rattle.layout.proofs.Laws.{few-items}
+use Rattle.layout.proofs.ItemWalks.{few-items}
 use Rattle.search.specs.Slots.{slotsIn, partCode, noTree, InRange, Hint}
 use Rattle.tree.specs.Built.{slotOfToken}
 use Rattle.node.specs.NodeWords.{Arrays, arrays}
@@ -102,7 +103,7 @@ coded-first t s ss r e = go (eqb (s .nodes) 0) refl
 -- A span without a tree is opened by one of the tokens.
 behind-among : (A : Arrays) (k i t j : ℕ) → codedSpans t (map (judgedAt A) (openersIn (A .kinds) i k)) ≡ NoTreeBehind j → j < i + k
 unfolding codedSpans openersIn judgedAt codedOpener
-behind-among A zero i t j e = let z : Trees t ≡ NoTreeBehind j = e in let y : _≡_ {A = ℕ} 0 1 = cc in absurd (omega arith)
+behind-among A zero i t j e = let z : Trees t ≡ NoTreeBehind j = e in impossible cc
 behind-among A (suc k) i t j e = go (opensSpan (getD (A .kinds) i 0)) refl (λ u f. behind-among A k (suc i) u j f)
   where
     go : (b : Bool) → opensSpan (getD (A .kinds) i 0) ≡ b
@@ -115,7 +116,7 @@ behind-among A (suc k) i t j e = go (opensSpan (getD (A .kinds) i 0)) refl (λ u
 pub behind-opener : (A : Arrays) (n j : ℕ) → codedSpans 0 (judgedSpans A n) ≡ NoTreeBehind j → j < n
 unfolding judgedSpans codedOpener
 behind-opener A n j e =
-    ⊎-elim (λ f. let z : NoTree ≡ NoTreeBehind j = f in let y : _≡_ {A = ℕ} 0 1 = cc in absurd (omega arith))
+    ⊎-elim (λ f. let z : NoTree ≡ NoTreeBehind j = f in impossible cc)
     (λ f. omega (arith, behind-among A n 0 (0 + spanNodes A 0 n) j (f .1))) (coded-first 0 _ _ _ e)
 
 -- The noted roots: no opener left, one whose span has no tree, and one whose span has one.

@@ -16,11 +16,11 @@ use Rattle.grammar.specs.Coded.{fixityOf}
 use Rattle.grammar.specs.Declaration.{mostOperators}
 use Rattle.table.specs.Entries.{nameIn, tableOf, Sized, Coded, AllLawful, Declarable, Declared, Clearable, Cleared}
 use Rattle.table.specs.declared.Table.{Table}
-use Rattle.table.proofs.Laws.{name-in-text}
+use Rattle.table.proofs.TableEntries.{name-in-text}
 use Rattle.declarations.specs.declared.enter.Entered.{Entered}
 use Rattle.declarations.specs.Entering.{Full, Entering}
 use Rattle.declarations.proofs.Counts.{table-count}
-use Rattle.declarations.proofs.Steps.{entered, entered-lawful, entered-unlawful, DeclarationAt, RoleAt}
+use Rattle.declarations.proofs.TokenDeclarations.{entered, entered-lawful, entered-unlawful, DeclarationAt, RoleAt}
 
 module _ (text : Bytes) (K S Z : List ℕ) (from to : ℕ) where
   abbrev answer : Table → ℕ → Outcome G.Table

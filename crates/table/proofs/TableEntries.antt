@@ -10,10 +10,10 @@ use lib.Dec.{ltb}
 use lib.ListN.{length, take, drop, getD, set, length-set}
 use lib.Seq.{getD-set-same, getD-set-other}
 use borrow.Author.Tests.{lt-ltb, le-ltb, ltb-true, ltb-false}
+use Rattle.grammar.specs.Fault.{longestText}
 use Rattle.grammar.specs.Bytes.{Bytes, same}
 use Rattle.grammar.specs.Operator.{lawful, lawfulTable}
 use Rattle.grammar.specs.Coded.{rolesOf}
-use Rattle.grammar.specs.Answer.{longestText}
 use Rattle.table.specs.Entries.{startNames, nameIn, codedFind, operatorsFrom, Moved}
 use Rattle.table.specs.declared.Table.{Table}
 use Rattle.table.specs.declared.Found.the-variants.{At, Nothing}

@@ -7,21 +7,30 @@ use Prim.Native.Nat.{ℕ, zero, suc, _+_, _-_, _≤_, _<_}
 use native.Mathlib.Omega.{arith}
 use native.Mathlib.Numerals.{add-one}
 use lib.ListN.{length, getD, set}
+use Rattle.grammar.specs.Fault.{longestText}
 use Rattle.grammar.specs.Bytes.{Bytes}
 use Rattle.grammar.specs.Token.{Token}
 use Rattle.grammar.specs.Outcome.{Outcome, refused, passed, andThen}
 use Rattle.grammar.specs.Operator.{Prefix, Infix, Postfix, Distinct, Alive}
 use Rattle.grammar.specs.Operator as G
-use Rattle.grammar.specs.Coded.{tokenAt}
 use Rattle.grammar.specs.Declaration.{declarations, enter}
 use Rattle.grammar.specs.Span.{Item, single, pair, scope, itemTokens, items}
 use Rattle.grammar.specs.Blocks.{bodyTable, checkItem, checkItems, checkBlocks}
-use Rattle.grammar.specs.Answer.{longestText}
 use Rattle.grammar.proofs.Declarations.{enter-sound}
 use Rattle.grammar.proofs.Operators.{distinct-declared, alive-declared}
 use Rattle.grammar.proofs.RefusalNumbers.{blocks-number, enter-number}
+use Rattle.nesting.specs.Atoms.{atomAt}
 use Rattle.nesting.specs.Paired.{Paired}
-use Rattle.nesting.proofs.PairedItems.{behind-pair, behind-scope, range, length-range, items-done, items-content, items-bracket, items-block}
+use Rattle.nesting.proofs.PairedItems.{
+  behind-pair,
+  behind-scope,
+  range,
+  length-range,
+  items-done,
+  items-content,
+  items-bracket,
+  items-block,
+}
 use Rattle.nesting.proofs.PairedCases.{BracketAt, BlockAt, paired-ordered, paired-content}
 use Rattle.table.specs.Entries.{tableOf, Sized, Coded}
 use Rattle.table.specs.declared.Table.{Table}
@@ -166,7 +175,7 @@ module _
           let h : checks text K S Z C from to t k i ≡ refused (r .number) (r .at) = check-first k ∙ rw (c k l) in
           rw h (refl, refl))
 
-    -- A token of content, with the numbers that were stored.
+    -- An atom, with the numbers that were stored.
     pub content-over :
         (p q s n : ℕ) (P′ I′ Q′ L′ : List ℕ) → i < to → ContentAt text K S Z C t i p q s n
         → (P′ ≡ set P i p) × (I′ ≡ set I i q) × (Q′ ≡ set Q i s) × (L′ ≡ set L i n)
@@ -175,7 +184,7 @@ module _
     content-over p q s n P′ I′ Q′ L′ l c (a, b, d, e) =
         let k = c .isContent in
         rw (add-one i)
-        (passed-over (single (tokenAt text K S Z i)) (suc i) (items-content text K S Z i to l k) (omega arith)
+        (passed-over (single (atomAt text K S Z i)) (suc i) (items-content text K S Z i to l k) (omega arith)
         (paired-content (inv .paired) l (k .1) .1) P′ I′ Q′ L′ (λ k l. refl)
         (λ k l col. ap (set (four P I Q L col) i) (c .numbers col) ∙ elim col [
           | roles f ↦ elim f [ Prefix ↦ sym a | Infix ↦ sym b | Postfix ↦ sym d ]

@@ -8,8 +8,9 @@ use Prim.Native.Nat.{ℕ, zero, suc, _+_, _-_, _*_, _/_, _%_, _≤_, _<_}
 use native.Mathlib.Omega.{arith}
 use lib.ListN.{length, take, drop, getD}
 use borrow.Author.Tests.{le-leb, lt-leb}
+use Rattle.grammar.specs.Fault.{longestText}
 use Rattle.grammar.specs.Bytes.{Bytes}
-use Rattle.grammar.specs.Token.{Token, symbol, number, semicolon}
+use Rattle.grammar.specs.Token.{Token, atom, structure, symbol, number, semicolon}
 use Rattle.grammar.specs.Outcome.{Outcome, refused, passed}
 use Rattle.grammar.specs.Operator.{Fixity, Prefix, Infix, Postfix, Associativity, left, right, non, Role, Table, declareRole, removeRoles, lawfulTable, Distinct}
 use Rattle.grammar.specs.Coded.{tokenAt, tokensFrom, fixityOf, fixityCode, associativityOf, associativityCode, roleCode, roleOf}
@@ -33,20 +34,20 @@ use Rattle.grammar.specs.Declaration.{
   enter,
 }
 use Rattle.grammar.specs.Declaration as D
-use Rattle.grammar.specs.Answer.{longestText}
+use Rattle.grammar.proofs.Logic.{impossible}
 use Rattle.grammar.proofs.Declarations.{declaration-sound, enter-end, enter-step}
 use Rattle.grammar.proofs.EnterComplete.{enter-fuel, unfit-refused}
 use Rattle.grammar.proofs.Operators.{distinct-declared}
 use Rattle.scan.specs.Tokens.{TokensFound}
 use Rattle.table.specs.Entries.{nameIn, IsCode}
-use Rattle.table.proofs.Laws.{name-in-text}
+use Rattle.table.proofs.TableEntries.{name-in-text}
 use Rattle.table.proofs.Roles.{a-role}
 use Rattle.declarations.specs.declared.parse.Parsed.the-variants.{Unfit, Clears}
 use Rattle.declarations.specs.declared.parse.Parsed.the-variants as P
 use Rattle.declarations.specs.Parses.{codedParsed, codedDeclaration}
 use Rattle.declarations.specs.Entering.{InText}
 use Rattle.declarations.proofs.Looks.{symbol-bytes}
-use Rattle.declarations.proofs.Parts.{tokens, tokens-end}
+use Rattle.declarations.proofs.DeclarationParts.{tokens, tokens-end}
 use Rattle.declarations.proofs.Unfit.{was-unfit}
 
 -- Codes give back what they stand for.
@@ -95,7 +96,7 @@ module _ (text : Bytes) (K S Z : List ℕ) where
       let j : i + 0 ≡ i = omega arith in
       let m : n - 0 ≡ n = omega arith in
       (omega arith, sym e ∙ sym (rw (j, m) refl))
-  run-behind (t ∷ ts) i zero rest e = let z : _≡_ {A = ℕ} 0 1 = cc in absurd (omega arith)
+  run-behind (t ∷ ts) i zero rest e = impossible cc
   run-behind (t ∷ ts) i (suc n) rest e =
       let (l, r) = run-behind ts (suc i) n rest (cc) in
       let j : i + suc (length ts) ≡ suc i + length ts = omega arith in
@@ -104,15 +105,15 @@ module _ (text : Bytes) (K S Z : List ℕ) where
 
   -- A symbol in front of which other tokens stand is a part of the text.
   symbol-behind :
-      (ts : List Token) (i n : ℕ) (m : Bytes) (rest : List Token) → TokensFound text K S Z i (i + n) → run i n ≡ ts ++ symbol m ∷ rest
+      (ts : List Token) (i n : ℕ) (m : Bytes) (rest : List Token) → TokensFound text K S Z i (i + n) → run i n ≡ ts ++ atom (symbol m) ∷ rest
       → m ≡ take (getD Z (i + length ts) 0) (drop (getD S (i + length ts) 0) text)
   unfolding tokensFrom
   symbol-behind ts i n m rest found e =
-      let (l, r) = run-behind ts i n (symbol m ∷ rest) e in
+      let (l, r) = run-behind ts i n (atom (symbol m) ∷ rest) e in
       let w : suc (length rest) ≡ n - length ts = ap length r ∙ run-length (i + length ts) (n - length ts) in
       symbol-bytes text K S Z (i + length ts) (found (i + length ts) (omega arith) (omega arith)) m (first (n - length ts) r)
     where
-      first : (k : ℕ) → symbol m ∷ rest ≡ run (i + length ts) k → tokenAt text K S Z (i + length ts) ≡ symbol m
+      first : (k : ℕ) → atom (symbol m) ∷ rest ≡ run (i + length ts) k → tokenAt text K S Z (i + length ts) ≡ atom (symbol m)
       first zero r = cc
       first (suc k) r = cc
 
@@ -213,14 +214,14 @@ module _ (text : Bytes) (K S Z : List ℕ) (to : ℕ) where
     role-at f role said size z = go (declaration (tokensAt at)) refl said
       where
         go : (p : D.Parsed) → declaration (tokensAt at) ≡ p → codedParsed p ≡ P.Role f role → RoleAt at f role size
-        go (unfit n) e c = let z : _≡_ {A = ℕ} 0 1 = cc in absurd (omega arith)
-        go (parsed (clears m) rest) e c = let z : _≡_ {A = ℕ} 0 1 = cc in absurd (omega arith)
+        go (unfit n) e c = impossible cc
+        go (parsed (clears m) rest) e c = impossible cc
         go (parsed (declares g a v m) rest) e c =
             let w = declaration-at (declares g a v m) rest e in
             let k : value v * 4 + associativityCode a ≡ role = cc in
             let x : g ≡ fixityOf f = sym (fixity-back g) ∙ ap fixityOf (cc) in
             let n : m ≡ nameAt (at + 3) size =
-            symbol-behind text K S Z (symbol _ ∷ symbol _ ∷ number v ∷ []) at (to - at) m (semicolon ∷ rest) within
+            symbol-behind text K S Z (atom (symbol _) ∷ atom (symbol _) ∷ atom (number v) ∷ []) at (to - at) m (structure semicolon ∷ rest) within
             (declaration-sound (tokensAt at) (declares g a v m) rest e .0)
             ∙ ap (λ z. take z (drop (getD S (at + 3) 0) text)) (sym z)
             ∙ sym (name-in-text text (getD S (at + 3) 0) size (w .inText)) in
@@ -243,12 +244,12 @@ module _ (text : Bytes) (K S Z : List ℕ) (to : ℕ) where
         go :
             (p : D.Parsed) → declaration (tokensAt at) ≡ p → codedParsed p ≡ Clears
             → DeclarationAt at (removeRoles (nameAt (at + 1) size)) 1 3
-        go (unfit n) e c = let z : _≡_ {A = ℕ} 0 1 = cc in absurd (omega arith)
-        go (parsed (declares g a v m) rest) e c = let z : _≡_ {A = ℕ} 0 1 = cc in absurd (omega arith)
+        go (unfit n) e c = impossible cc
+        go (parsed (declares g a v m) rest) e c = impossible cc
         go (parsed (clears m) rest) e c =
             let w = declaration-at (clears m) rest e in
             let n : m ≡ nameAt (at + 1) size =
-            symbol-behind text K S Z (symbol _ ∷ []) at (to - at) m (semicolon ∷ rest) within
+            symbol-behind text K S Z (atom (symbol _) ∷ []) at (to - at) m (structure semicolon ∷ rest) within
             (declaration-sound (tokensAt at) (clears m) rest e .0)
             ∙ ap (λ z. take z (drop (getD S (at + 1) 0) text)) (sym z)
             ∙ sym (name-in-text text (getD S (at + 1) 0) size (w .inText)) in

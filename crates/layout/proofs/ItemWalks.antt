@@ -36,7 +36,7 @@ pub record Met (K C : List ℕ) (to i j : ℕ) : Type 0 where
   pub within : j ≤ to
   pub paired : Paired K C j to
 
--- By cases of the range: a token of content, a bracket pair, a block.
+-- By cases of the range: an atom, a bracket pair, a block.
 pub met : {K C : List ℕ} {i to : ℕ} → Paired K C i to → i < to → Met K C to i (behindItem K C i)
 met done l = absurd (omega arith)
 met {K} {C} (content {i} {to} m k p) l =

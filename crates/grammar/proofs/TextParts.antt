@@ -9,13 +9,13 @@ use lib.ListN.{length, drop, getD, length-append, drop-of-length-le}
 use lib.Seq.{drop-append-seam, drop-drop}
 use Rattle.grammar.specs.Bytes.{Bytes, every}
 use Rattle.grammar.specs.Token.{isBlankByte, Token, spelling, isToken}
-use Rattle.grammar.specs.Spelling.{continues, Stops, Spells, finish, next}
+use Rattle.grammar.specs.Spelling.{continues, Stops, Splits, noMore, oneMore, Spells}
 use Rattle.grammar.specs.Outcome.{passed}
 use Rattle.grammar.specs.Scan.{Placed, scan}
 use Rattle.grammar.specs.Answer.{tokensOf, startsOf, offsetOf}
 use Rattle.grammar.proofs.Logic.{and-left, and-right, and-intro}
 use Rattle.grammar.proofs.Runs.{every-cons}
-use Rattle.grammar.proofs.Scanned.{scan-spelled}
+use Rattle.grammar.proofs.Scanned.{scan-spelled, spells-none, spells-next}
 use Rattle.grammar.proofs.Offsets.{First, first-found, first-size}
 
 -- Token number `i` stands in the text at its offset; behind it stand blanks, then the next token or the end.
@@ -51,12 +51,19 @@ every-append p (x ∷ a) b h g =
     every-cons p x (a ++ b) ∙ and-intro (and-left (p x) (every p a) e) (every-append p a b (and-right (p x) (every p a) e) g)
 
 blanks-before : {s : Bytes} {ts : List Token} (g : Bytes) → every isBlankByte g ≡ true → Spells s ts → Spells (g ++ s) ts
-blanks-before {s} g b (finish e) = finish (every-append isBlankByte g s b e)
-blanks-before g b (next c t rest w e v h r) =
-    next (g ++ c) t rest (ap (_++_ g) w ∙ sym (append-assoc g c (spelling t ++ rest))) (every-append isBlankByte g c b e) v h r
+blanks-before {s} {ts} g b r = go (r .split) (r .blank)
+  where
+    go : {us : List Token} {end : Bytes} → Splits s us end → every isBlankByte end ≡ true → Spells (g ++ s) us
+    go noMore z = spells-none (every-append isBlankByte g s b z)
+    go (oneMore c t rest w e v h r) z =
+        spells-next (g ++ c) t rest (ap (_++_ g) w ∙ sym (append-assoc g c (spelling t ++ rest))) (every-append isBlankByte g c b e) v h
+        (record { rest = _; split = r; blank = z })
 
 blank-end : {s : Bytes} → Spells s [] → every isBlankByte s ≡ true
-blank-end (finish e) = e
+blank-end r = go (r .split) (r .blank)
+  where
+    go : {s end : Bytes} → Splits s [] end → every isBlankByte end ≡ true → every isBlankByte s ≡ true
+    go noMore z = z
 
 -- A text that stops stops where it is cut.
 stops-front : (p : ℕ → Bool) (a b : Bytes) → Stops p (a ++ b) → Stops p a
@@ -88,7 +95,7 @@ module _ (text : Bytes) (o : ℕ → ℕ) where
     written = h .written;
     size = ap (λ j. o j + length (spelling t)) (omega arith);
     ends = refl;
-    spells = next [] t [] (sym (append-nil (spelling t))) refl (h .valid) tt (finish refl);
+    spells = spells-next [] t [] (sym (append-nil (spelling t))) refl (h .valid) tt (spells-none refl);
   }
 
   token-before : (i : ℕ) (u : Token) (ts : List Token) (t : Token) → Here text o i u → Part text o (suc i) ts t → Part text o i (u ∷ ts) t
@@ -109,7 +116,7 @@ module _ (text : Bytes) (o : ℕ → ℕ) where
         ∙ ap (_++_ (spelling u)) (sym (append-assoc (h .gap) (q .front) (spelling t)))
         ∙ sym (append-assoc (spelling u) (h .gap ++ q .front) (spelling t));
     spells =
-        next [] u (h .gap ++ q .bytes) refl refl (h .valid)
+        spells-next [] u (h .gap ++ q .bytes) refl refl (h .valid)
         (stops-front (continues u) (h .gap ++ q .bytes) (q .rest) (subst (Stops (continues u)) inner (h .stops)))
         (blanks-before (h .gap) (h .blank) (q .spells));
   }
@@ -123,12 +130,12 @@ module _ (text : Bytes) (o : ℕ → ℕ) where
   part i (u ∷ ts) t h = token-before i u ts t (h .0) (part (suc i) ts t (h .1))
 
   -- What a scan from offset `at` on tells of the tokens from number `i` on.
-  record Behind (at : ℕ) (s : Bytes) (i : ℕ) (ts : List Token) : Type 0 where
-    gap : Bytes
-    written : s ≡ gap ++ drop (o i) text
-    blank : every isBlankByte gap ≡ true
-    starts : o i ≡ at + length gap
-    stand : Stand i ts
+  pub record Behind (at : ℕ) (s : Bytes) (i : ℕ) (ts : List Token) : Type 0 where
+    pub gap : Bytes
+    pub written : s ≡ gap ++ drop (o i) text
+    pub blank : every isBlankByte gap ≡ true
+    pub starts : o i ≡ at + length gap
+    pub stand : Stand i ts
 
   module _ (at : ℕ) (s : Bytes) (p : Placed) (ps : List Placed) (g : First at s p ps) (d : drop at text ≡ s) where
     -- The first token stands in the text, ..
@@ -187,9 +194,14 @@ module _ (text : Bytes) (o : ℕ → ℕ) where
       (scan-stands (g .room) (p .start + length (spelling (p .token))) (g .rest) ps (suc i) (g .further) (rest-ahead at s p ps g d)
       (omega (arith, g .starts, first-size at s g)) (λ j k. ap o (omega arith) ∙ f (suc j) (omega arith)))
 
--- The tokens of a text stand at the offsets that the words of its nodes are made of.
+-- The tokens of a text stand at the offsets that the words of its nodes are made of; before the first stand blanks.
+pub offsets-behind :
+    (room : ℕ) (text : Bytes) (ps : List Placed) → scan room 0 text ≡ passed ps
+    → Behind text (offsetOf text ps) 0 text 0 (tokensOf ps)
+unfolding offsetOf
+offsets-behind room text ps h =
+    scan-stands text (offsetOf text ps) room 0 text ps 0 h refl (omega arith) (λ j k. ap (offsetOf text ps) (omega arith))
+
 pub offsets-stand :
     (room : ℕ) (text : Bytes) (ps : List Placed) → scan room 0 text ≡ passed ps → Stand text (offsetOf text ps) 0 (tokensOf ps)
-unfolding offsetOf
-offsets-stand room text ps h =
-    scan-stands text (offsetOf text ps) room 0 text ps 0 h refl (omega arith) (λ j k. ap (offsetOf text ps) (omega arith)) .stand
+offsets-stand room text ps h = offsets-behind room text ps h .stand

@@ -17,13 +17,45 @@ use Rattle.search.proofs.Ranges.{range-length, range-take, range-drop}
 use Rattle.search.proofs.Found.{root-from-zero}
 use Rattle.search.proofs.Roots.{range-size}
 use Rattle.search.proofs.PartRanges.{root-begins, hint-before, hint-after}
-use Rattle.tree.specs.Built.{slotOfToken, operatorWords}
+use Rattle.tree.specs.Built.{slotOfToken, rootWords}
 use Rattle.node.specs.NodeWords.{Arrays, operatorNode, arrays}
-use Rattle.tree.specs.Building.{entries, tokensOf, cover, partWords, leafWords, ItemAt, Items, more, Buildable, Leafable, Written, Whole}
+use Rattle.tree.specs.Building.{
+  entries,
+  tokenCount,
+  cover,
+  partWords,
+  leafWords,
+  ItemAt,
+  Items,
+  more,
+  Buildable,
+  Leafable,
+  Written,
+  Whole,
+}
 use Rattle.tree.proofs.Over.{over-none, over-length, over-node, lent-part, over-lent}
 use Rattle.tree.proofs.Covers.{cover-more, tokens-some, cover-least, items-take, items-drop, item-of, cover-split, length-split}
-use Rattle.tree.proofs.Words.{operator-size, rootOf, operator-length, part-none, part-bound, part-item, part-operator, operator-words}
-use Rattle.tree.proofs.Entries.{map-take, map-drop, entries-none, entries-before, entries-behind, entries-at, entries-first, entries-kept, slots-kept}
+use Rattle.tree.proofs.Words.{
+  operator-size,
+  rootOf,
+  operator-length,
+  part-none,
+  part-bound,
+  part-item,
+  part-operator,
+  operator-words,
+}
+use Rattle.tree.proofs.Entries.{
+  map-take,
+  map-drop,
+  entries-none,
+  entries-before,
+  entries-behind,
+  entries-at,
+  entries-first,
+  entries-kept,
+  slots-kept,
+}
 
 -- The sides of a root: whether something stands before it and behind it.
 stands-before : (from at : ℕ) → from ≤ at → not (eqb (at - from) 0) ≡ ltb from at
@@ -101,13 +133,13 @@ module _ {A : Arrays} {M P F Q : List ℕ} {from to free hint bound : ℕ} {N : 
         let n : length (entries M from to) ≤ rootOf A (entries M from to) = omega (arith, root-place at e, listed) in
         ap (λ ns. partWords A ns base) first ∙ part-item A base first-items (subst (λ ns. length ns ≤ rootOf A ns) first n)
 
-    first-tokens : (tokensOf A i + length (entries M from to) ≤ cover A (entries M from to) + 1) × ItemAt A i
+    first-tokens : (tokenCount A i + length (entries M from to) ≤ cover A (entries M from to) + 1) × ItemAt A i
     first-tokens = rw first (go first-items)
       where
-        go : {ns : List ℕ} → Items A (i ∷ ns) → (tokensOf A i + length (i ∷ ns) ≤ cover A (i ∷ ns) + 1) × ItemAt A i
+        go : {ns : List ℕ} → Items A (i ∷ ns) → (tokenCount A i + length (i ∷ ns) ≤ cover A (i ∷ ns) + 1) × ItemAt A i
         go {ns} (more h hs) = (omega (arith, cover-more A i ns, cover-least A hs), h)
 
-    pub leaf-falls : tokensOf A i ≤ cover A (entries M from to)
+    pub leaf-falls : tokenCount A i ≤ cover A (entries M from to)
     leaf-falls = omega (arith, first-tokens .0, listed)
 
     pub leaf-asks : Leafable A M P F Q i free N base
@@ -151,7 +183,7 @@ module _ {A : Arrays} {M P F Q : List ℕ} {from to free hint bound : ℕ} {N : 
     pub root-tokens : ItemAt A (getD M at 0)
     root-tokens = subst (ItemAt A) root-item (item-of A (at - from) (b .items) inside)
 
-    covers : cover A (entries M from to) ≡ cover A (entries M from at) + (tokensOf A (getD M at 0) + cover A (entries M (at + 1) to))
+    covers : cover A (entries M from to) ≡ cover A (entries M from at) + (tokenCount A (getD M at 0) + cover A (entries M (at + 1) to))
     covers = cover-split A (at - from) (entries M from to) inside ∙ rw (left-entries, right-entries, root-item)
 
     lengths : length (entries M from to) ≡ length (entries M from at) + suc (length (entries M (at + 1) to))
@@ -169,10 +201,10 @@ module _ {A : Arrays} {M P F Q : List ℕ} {from to free hint bound : ℕ} {N : 
     pub right-falls : cover A (entries M (at + 1) to) < cover A (entries M from to)
     right-falls = omega (arith, covers, tokens-some A _ root-tokens)
 
-    root-words : partWords A (entries M from to) base ≡ operatorWords A (partWords A) (entries M from to) (at - from) base
+    root-words : partWords A (entries M from to) base ≡ rootWords A (partWords A) (entries M from to) (at - from) base
     root-words =
         part-operator A base (b .items) (subst⁻¹ (λ k. k < length (entries M from to)) place inside)
-        ∙ ap (λ k. operatorWords A (partWords A) (entries M from to) k base) place
+        ∙ ap (λ k. rootWords A (partWords A) (entries M from to) k base) place
 
     words-length : length (partWords A (entries M from to) base)
         ≡ length (partWords A (entries M from at) base)

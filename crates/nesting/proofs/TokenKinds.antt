@@ -5,10 +5,11 @@ use mathlib.Core.List.{List, [], _∷_}
 use Prim.Native.Nat.{ℕ, zero, suc}
 use lib.Dec.{ltb}
 use lib.ListN.{length, getD, set}
+use Rattle.grammar.specs.Open.{Open, deepest}
 use Rattle.grammar.specs.Bytes.{Bytes}
 use Rattle.grammar.specs.Token.{Token}
 use Rattle.grammar.specs.Outcome.{Outcome, refused}
-use Rattle.grammar.specs.Nesting.{Open, Move, stays, broken, enters, becomes, leaves, move, closeInnermost, deepest, nesting}
+use Rattle.grammar.specs.Nesting.{Move, stays, broken, enters, becomes, leaves, move, closeInnermost, nesting}
 use Rattle.grammar.specs.Coded.{tokenOf, tokenAt, tokensFrom}
 use Rattle.nesting.specs.Pairs.{tokensBy, Pair, sorts, outer, innermostAt, closers}
 use Rattle.nesting.proofs.Moves.{move-kind}

@@ -13,7 +13,7 @@ use lib.Dec.{eqb, leb}
 use lib.ListN.{drop, getD}
 use borrow.Author.Tests.{le-leb, lt-leb, eq-eqb, ne-eqb, eqb-true, eqb-false, leb-true, leb-false}
 use Rattle.grammar.specs.Bytes.{Bytes, same}
-use Rattle.grammar.specs.Token.{Token, symbol, number, quoted, opening, closing, semicolon, keywordLet, keywordIn, keywordEnd}
+use Rattle.grammar.specs.Token.{Token, atom, structure, symbol, number, quoted, structureNumber, isStructure}
 use Rattle.grammar.specs.Operator.{Fixity, Associativity}
 use Rattle.grammar.specs.Coded.{kindOf, charactersIn, tokenOf, tokenAt, tokensFrom, fixityOf, fixityCode, associativityOf, associativityCode}
 use Rattle.grammar.specs.Declaration.{
@@ -43,7 +43,7 @@ use Rattle.declarations.specs.Parses.{
   seenAt,
   expected,
   closedAt,
-  operatorAt,
+  operatorField,
   codedParsed,
   codedDeclaration,
   precedenceCode,
@@ -71,39 +71,22 @@ module _ (kind : ℕ) (text : Bytes) (S : List ℕ) (at to k : ℕ) (d : Parsed)
 -- What a token of another kind is not.
 symbol-other : (t : Token) → (kindOf t ≡ 1 → ⊥) → symbolOf t ≡ none
 unfolding kindOf symbolOf
-symbol-other (symbol w) n = absurd (n refl)
-symbol-other (number d) n = refl
-symbol-other (quoted c) n = refl
-symbol-other opening n = refl
-symbol-other closing n = refl
-symbol-other semicolon n = refl
-symbol-other keywordLet n = refl
-symbol-other keywordIn n = refl
-symbol-other keywordEnd n = refl
+symbol-other (atom (symbol w)) n = absurd (n refl)
+symbol-other (atom (number d)) n = refl
+symbol-other (atom (quoted c)) n = refl
+symbol-other (structure s) n = refl
 
 precedence-other : (t : Token) → (kindOf t ≡ 2 → ⊥) → precedenceOf t ≡ none
 unfolding kindOf precedenceOf
-precedence-other (symbol w) n = refl
-precedence-other (number d) n = absurd (n refl)
-precedence-other (quoted c) n = refl
-precedence-other opening n = refl
-precedence-other closing n = refl
-precedence-other semicolon n = refl
-precedence-other keywordLet n = refl
-precedence-other keywordIn n = refl
-precedence-other keywordEnd n = refl
+precedence-other (atom (symbol w)) n = refl
+precedence-other (atom (number d)) n = absurd (n refl)
+precedence-other (atom (quoted c)) n = refl
+precedence-other (structure s) n = refl
 
 semicolon-other : (t : Token) → (kindOf t ≡ 6 → ⊥) → isSemicolon t ≡ false
-unfolding kindOf isSemicolon
-semicolon-other (symbol w) n = refl
-semicolon-other (number d) n = refl
-semicolon-other (quoted c) n = refl
-semicolon-other opening n = refl
-semicolon-other closing n = refl
-semicolon-other semicolon n = absurd (n refl)
-semicolon-other keywordLet n = refl
-semicolon-other keywordIn n = refl
-semicolon-other keywordEnd n = refl
+unfolding kindOf isSemicolon isStructure structureNumber
+semicolon-other (atom a) n = refl
+semicolon-other (structure s) n = ne-eqb 6 (structureNumber s) (λ e. n (sym e))
 
 -- A part refuses with the token's number behind the last token and at a token of another kind.
 pub record Refuses (part : List Token → D.Parsed) (kind n : ℕ) : Type 0 where
@@ -148,12 +131,12 @@ module _ (w : Bytes) (ts : List Token) where
 
 -- What the associativity's word says.
 module _ (f : ℕ) (w : Bytes) (ts : List Token) (a : ℕ) (g : a ≡ associativityNumber f w) where
-  pub allowed-other : a ≡ 0 → associativityPart (fixityOf f) (symbol w ∷ ts) ≡ unfit 1
+  pub allowed-other : a ≡ 0 → associativityPart (fixityOf f) (atom (symbol w) ∷ ts) ≡ unfit 1
   unfolding associativityPart
   allowed-other z = rw (associativity-number f w .nothing (sym g ∙ z), associativityPart)
 
   pub allowed-named :
-      (a ≡ 0 → ⊥) → associativityPart (fixityOf f) (symbol w ∷ ts) ≡ precedencePart (fixityOf f) (associativityOf a) ts
+      (a ≡ 0 → ⊥) → associativityPart (fixityOf f) (atom (symbol w) ∷ ts) ≡ precedencePart (fixityOf f) (associativityOf a) ts
   unfolding associativityPart
   allowed-named n =
       rw (associativity-number f w .found (λ z. n (g ∙ z)), associativityPart)
@@ -161,11 +144,11 @@ module _ (f : ℕ) (w : Bytes) (ts : List Token) (a : ℕ) (g : a ≡ associativ
 
 -- What the number says.
 module _ (f : Fixity) (a : Associativity) (d : Bytes) (ts : List Token) (p : ℕ) (g : p ≡ precedenceCode d) where
-  pub digits-other : p ≡ 0 → precedencePart f a (number d ∷ ts) ≡ unfit 2
+  pub digits-other : p ≡ 0 → precedencePart f a (atom (number d) ∷ ts) ≡ unfit 2
   unfolding precedencePart precedenceOf
   digits-other z = rw (precedence-zero d (sym g ∙ z), precedencePart)
 
-  pub digits-given : (p ≡ 0 → ⊥) → precedencePart f a (number d ∷ ts) ≡ operatorPart 3 (declares f a d) ts
+  pub digits-given : (p ≡ 0 → ⊥) → precedencePart f a (atom (number d) ∷ ts) ≡ operatorPart 3 (declares f a d) ts
   unfolding precedencePart precedenceOf
   digits-given n = rw (precedence-positive d (λ z. n (g ∙ z)) .0, precedencePart)
 
@@ -267,14 +250,14 @@ module _ (text : Bytes) (K S Z : List ℕ) (to : ℕ) where
     closed-coded :
         (k : ℕ) (d : Declaration) (at : ℕ) → from ≤ at
         → codedParsed (closed k d (tokens at)) ≡ closedAt text S at to k (codedDeclaration d)
-    unfolding codedParsed closed isSemicolon tokenOf
+    unfolding codedParsed closed isSemicolon tokenOf isStructure structureNumber
     closed-coded k d at low =
         part-expected at low (closed-refuses k d) (codedDeclaration d)
         (λ h e. ap (λ ts. codedParsed (closed k d ts)) (tokens-here at low 6 (suc at) refl h e (characters 6 at) refl))
 
     pub operator-coded :
         (k : ℕ) (make : Bytes → Declaration) (d : Parsed) → ((m : Bytes) → codedDeclaration (make m) ≡ d) → (at : ℕ) → from ≤ at
-        → codedParsed (operatorPart k make (tokens at)) ≡ operatorAt text S at to k d
+        → codedParsed (operatorPart k make (tokens at)) ≡ operatorField text S at to k d
     unfolding codedParsed operatorPart symbolOf tokenOf
     operator-coded k make d same at low =
         part-expected at low (operator-refuses k make) (closedAt text S (at + 1) to (k + 1) d)

@@ -1,0 +1,117 @@
+-- Document 01, "Thirteen ways to say no", rows 1 to 10: which row holds of a text, and at which place. "A refusal comes exactly when its
+-- row holds and none earlier in the order does." Nothing here says how a text is checked.
+use mathlib.Core.Path.{_≡_}
+use mathlib.Core.Bool.{true, _||_}
+use mathlib.Core.List.{List, [], _∷_, _++_}
+use Prim.Native.Nat.{ℕ, suc, _+_, _≤_, _<_}
+use lib.ListN.{length, take}
+use Rattle.grammar.specs.Bytes.{Bytes}
+use Rattle.grammar.specs.Token.{inNumber, longestName, longestNumber, symbol, quoted, keywordIn, Token, atom, structure}
+use Rattle.grammar.specs.Token.{spelling, isWord, isSign, isNumber, isToken}
+use Rattle.grammar.specs.Spelling.{continues, Stops, Splits, Spells, GoesOn, TokenAt}
+use Rattle.grammar.specs.Open.{Open, Fits, deepest, OpenAfter}
+use Rattle.grammar.specs.Operator.{Table, Conditions}
+use Rattle.grammar.specs.Declaration.{Declaration, declare, declarationTokens, allTokens, isDeclaration, operatorPlace, mostOperators}
+use Rattle.grammar.specs.Spans.{BlockOf}
+
+-- "16,384 bytes, 1,024 tokens .. pass; one more is refused."
+abbrev pub longestText : ℕ
+longestText = 16384
+
+abbrev pub mostTokens : ℕ
+mostTokens = 1024
+
+-- Bytes at which a token is due and none stands, with the number of the row.
+pub data NoToken : Bytes → ℕ → Type 0 where
+  -- "2: byte begins no token"
+  beginsNone : {b : ℕ} {s : Bytes} → ((t : Token) (r : Bytes) → isToken t ≡ true → spelling t ≡ b ∷ r → ⊥) → NoToken (b ∷ s) 2
+  -- "3: quoted name malformed or unclosed"
+  noQuotedName :
+      {s : Bytes} → ((c r : Bytes) → isToken (atom (quoted c)) ≡ true → 39 ∷ s ≡ spelling (atom (quoted c)) ++ r → ⊥) → NoToken (39 ∷ s) 3
+  -- "4: word, sign or number too long"
+  longName :
+      {s : Bytes} (w r : Bytes) → s ≡ w ++ r → isWord w || isSign w ≡ true → Stops (continues (atom (symbol w))) r → longestName < length w
+      → NoToken s 4
+  longNumber : {s : Bytes} (d r : Bytes) → s ≡ d ++ r → isNumber d ≡ true → Stops inNumber r → longestNumber < length d → NoToken s 4
+
+-- "2 to 5 token by token, a token judged for 2, 3, 4 before it is counted"
+pub data TokenFault (text : Bytes) : ℕ → ℕ → Type 0 where
+  judged :
+      {ts : List Token} {n p : ℕ} {s : Bytes} → length ts ≤ mostTokens → GoesOn text ts p s → NoToken s n → TokenFault text n p
+  -- "5: 1,025th token"
+  counted :
+      {ts : List Token} {p : ℕ} {s : Bytes} {t : Token} {r : Bytes} → length ts ≡ mostTokens → GoesOn text ts p s → Splits s (t ∷ []) r
+      → TokenFault text 5 p
+
+-- "6 and 7 token by token, 6 first": of tokens, with the number of one of them.
+pub data NestingFault (ts : List Token) : ℕ → ℕ → Type 0 where
+  -- "6: structure broken: token, or text length if something is open at the end"
+  broken :
+      (xs : List Token) (t : Token) (ys : List Token) {os : List Open} → ts ≡ xs ++ t ∷ ys → OpenAfter xs os → ((ps : List Open) → Fits os t ps → ⊥)
+      → NestingFault ts 6 (length xs)
+  unclosed : {o : Open} {os : List Open} → OpenAfter ts (o ∷ os) → NestingFault ts 6 (length ts)
+  -- "7: brackets and blocks over 32 deep: the opener"
+  tooDeep :
+      (xs : List Token) (t : Token) (ys : List Token) {os ps : List Open} → ts ≡ xs ++ t ∷ ys → OpenAfter xs os → Fits os t ps → deepest < length ps
+      → NestingFault ts 7 (length xs)
+
+-- Declarations that take effect one after the other, so that at no time more than 64 operators are in force.
+pub data TakeEffect : Table → List Declaration → Table → Type 0 where
+  unchanged : {T : Table} → TakeEffect T [] T
+  changed :
+      {T U : Table} {d : Declaration} {ds : List Declaration} → isDeclaration d ≡ true → length (declare T d) ≤ mostOperators
+      → TakeEffect (declare T d) ds U → TakeEffect T (d ∷ ds) U
+
+-- "first unfit token": `k` tokens begin a declaration that is not complete with them, and with one more they begin none.
+pub record FirstUnfit (ts : List Token) (k : ℕ) : Type 0 where
+  pub begun :
+      (d : Declaration) × (t : Token) × (rest : List Token) × (isDeclaration d ≡ true) × (declarationTokens d ≡ take k ts ++ t ∷ rest)
+  pub unfit : (d : Declaration) (rest : List Token) → isDeclaration d ≡ true → declarationTokens d ≡ take (suc k) ts ++ rest → ⊥
+
+-- A fault of a declaration part `ts` under the operators `T`, with the number of a token of it. "each declaration complete through its
+-- `;` before it takes effect (8, then 9), then 10"
+pub data DeclarationFault (T : Table) (ts : List Token) : ℕ → ℕ → Type 0 where
+  -- "8: declaration malformed, level outside 1 to 1200: first unfit token". Behind the last token stands the `in`.
+  malformed :
+      (ds : List Declaration) (t : Token) (rest : List Token) {U : Table} {k : ℕ} → ts ≡ allTokens ds ++ t ∷ rest → TakeEffect T ds U
+      → FirstUnfit (t ∷ rest ++ structure keywordIn ∷ []) k → DeclarationFault T ts 8 (length (allTokens ds) + k)
+  -- "9: 65th mark in force: the mark"
+  overfull :
+      (ds : List Declaration) (d : Declaration) (rest : List Token) {U : Table} → ts ≡ allTokens ds ++ (declarationTokens d ++ rest)
+      → TakeEffect T ds U → isDeclaration d ≡ true → mostOperators < length (declare U d)
+      → DeclarationFault T ts 9 (length (allTokens ds) + operatorPlace d)
+  -- "10: overloading rule broken: `in`"
+  unlawful :
+      (ds : List Declaration) {U : Table} → ts ≡ allTokens ds → TakeEffect T ds U → (Conditions U → ⊥) → DeclarationFault T ts 10 (length ts)
+
+-- "then blocks by their `let`": the fault of the first block that has one, with the number of a token of the text.
+pub record BlockFault (ts : List Token) (n i : ℕ) : Type 0 where
+  pub table : Table
+  pub number : ℕ
+  pub part : List Token
+  pub at : ℕ
+  pub block : BlockOf ts table number part
+  pub fault : DeclarationFault table part n at
+  pub place : i ≡ suc (number + at)
+  pub first :
+      (T : Table) (j : ℕ) (ds : List Token) (m k : ℕ) → BlockOf ts T j ds → DeclarationFault T ds m k → number ≤ j
+
+-- Of a text nothing of rows 1 to 5 holds, and its tokens are `ts`.
+pub record HasTokens (text : Bytes) (ts : List Token) : Type 0 where
+  pub short : length text ≤ longestText
+  pub spelled : Spells text ts
+  pub few : length ts ≤ mostTokens
+
+-- Row number `n` holds of the text at the place `p`, and none earlier in the order does.
+pub data Fault (text : Bytes) : ℕ → ℕ → Type 0 where
+  -- "1: text over 16,384 bytes: 16384"
+  tooLong : longestText < length text → Fault text 1 longestText
+  inTokens : {n p : ℕ} → length text ≤ longestText → TokenFault text n p → Fault text n p
+  inNesting : {ts : List Token} {n i p : ℕ} → HasTokens text ts → NestingFault ts n i → TokenAt text ts i p → Fault text n p
+  inBlocks :
+      {ts : List Token} {n i p : ℕ} → HasTokens text ts → OpenAfter ts [] → BlockFault ts n i → TokenAt text ts i p → Fault text n p
+
+-- "a text is past checks 1 to 10 when nothing that comes before 11 in the order of refusals holds of it": the text and its tokens.
+pub record Past (text : Bytes) (ts : List Token) : Type 0 where
+  pub spelled : Spells text ts
+  pub faultless : (n p : ℕ) → Fault text n p → ⊥

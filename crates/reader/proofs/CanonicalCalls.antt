@@ -1,0 +1,95 @@
+-- Calls of `canonicalize`: one byte to a byte of canonical text, 13 where it does not fit; what the buffer then holds reads back, and two
+-- of them are compared by their trees.
+use mathlib.Core.Path.{_≡_, refl, sym, ap, ap₂, subst, _∙_}
+use mathlib.Core.Logic.{_↔_}
+use mathlib.Core.Bool.{Bool, true, _&&_}
+use mathlib.Core.List.{List}
+use Prim.Native.Nat.{ℕ, _≤_}
+use native.Mathlib.Omega.{arith}
+use lib.Dec.{leb}
+use lib.ListN.{length, take, drop}
+use lib.Seq.{take-append-seam, drop-append-seam}
+use borrow.Author.Tests.{leb-true, le-leb}
+use Rattle.grammar.specs.Bytes.{Bytes}
+use Rattle.grammar.specs.Outcome.{Outcome, refused, passed}
+use Rattle.grammar.specs.Tree.{Tree}
+use Rattle.grammar.specs.Abstract.{Agree}
+use Rattle.grammar.specs.Fault.{longestText}
+use Rattle.grammar.specs.Claim.{TreeOf, canonicalTree, canonicalBytes}
+use Rattle.grammar.specs.Answer as G
+use Rattle.grammar.specs.Answer.{Reading, readText, over, readingText, writeInto, canonicalizeInto}
+use Rattle.grammar.proofs.Logic.{and-left, and-right, and-intro}
+use Rattle.grammar.proofs.Rules.{reading-of, same-tree, canonical-read, canonical-same}
+use Rattle.reader.specs.declared.Answer.{Answer}
+use Rattle.reader.specs.Answered.{resultOf, Reads, Canonicalizes}
+use Rattle.reader.specs.Demands.{RightAnswer, TableFits, BufferFits, TableHolds, BufferHolds}
+use Rattle.reader.proofs.Calls as Calls
+use Rattle.reader.proofs.Calls.{served}
+use Rattle.reader.proofs.ReadCalls as ReadCalls
+
+bufferFits : List ℕ → Reading → Bool
+bufferFits B r = leb (length (readingText r)) (length B) && leb (length (readingText r)) longestText
+
+bytesOf : Reading → ℕ
+bytesOf r = length (readingText r)
+
+-- Canonicalizing is such a service.
+canonicalizing :
+    (text : Bytes) (B B′ : List ℕ) (a : Answer) → Canonicalizes text B B′ a
+    → resultOf a B′ ≡ served 13 (bufferFits B) bytesOf readingText B (readText text)
+unfolding G.canonicalize canonicalizeInto writeInto served bufferFits bytesOf
+canonicalizing text B B′ a h = h ∙ go (readText text)
+  where
+    go : (o : Outcome Reading) → canonicalizeInto B o ≡ served 13 (bufferFits B) bytesOf readingText B o
+    go (refused n p) = refl
+    go (passed r) = refl
+
+-- The test of 13.
+fits-exactly : (B : List ℕ) (r : Reading) → (bufferFits B r ≡ true) ↔ BufferFits B (r .tree)
+unfolding bufferFits readingText
+fits-exactly B r =
+    let n = length (canonicalBytes (r .tree)) in (
+      λ e.
+          (leb-true n (length B) (and-left (leb n (length B)) (leb n longestText) e), leb-true n longestText (and-right (leb n (length B)) (leb n longestText) e)),
+      λ h. and-intro (le-leb n (length B) (h .0)) (le-leb n longestText (h .1)),
+    )
+
+pub answers : (text : Bytes) (B B′ : List ℕ) (a : Answer) → Canonicalizes text B B′ a → RightAnswer 13 (BufferFits B) text B B′ a
+answers text B B′ a h =
+    Calls.answers 13 (bufferFits B) bytesOf readingText (omega arith) text B B′ a (canonicalizing text B B′ a h) (BufferFits B) (fits-exactly B)
+
+pub written :
+    (text : Bytes) (B B′ : List ℕ) (a : Answer) → Canonicalizes text B B′ a → a .number ≡ 0 → (t : Tree) → TreeOf text t → BufferHolds B B′ (a .count) t
+unfolding bytesOf over readingText
+written text B B′ a h z t i =
+    let (r, e, f, c, w) =
+    Calls.success-reads 13 (bufferFits B) bytesOf readingText (omega arith) text B B′ a (canonicalizing text B B′ a h) z in
+    let same : r .tree ≡ t = same-tree text (r .tree) t (reading-of text r e) i in
+    let s = canonicalBytes (r .tree) in
+    subst (BufferHolds B B′ (a .count)) same
+    (record {
+      counted = c;
+      text = ap₂ take c w ∙ take-append-seam s (drop (length s) B);
+      behind = ap₂ drop c w ∙ drop-append-seam s (drop (length s) B) ∙ ap (λ n. drop n B) (sym c);
+    })
+
+pub reads-back :
+    (text : Bytes) (B B′ : List ℕ) (a : Answer) → Canonicalizes text B B′ a → a .number ≡ 0 → (t : Tree) → TreeOf text t
+    → (N N′ : List ℕ) (b : Answer) → Reads (take (a .count) B′) N N′ b → TableFits N (canonicalTree t)
+    → (b .number ≡ 0) × TableHolds (take (a .count) B′) N N′ (b .count) (canonicalTree t)
+reads-back text B B′ a h z t i N N′ b g l =
+    let (u, k, f) = answers text B B′ a h .success .0 z in
+    let same : u ≡ t = same-tree text u t k i in
+    let short : length (canonicalBytes t) ≤ longestText = rw same at (f .1) in
+    let back : TreeOf (take (a .count) B′) (canonicalTree t) = subst (λ s. TreeOf s (canonicalTree t)) (sym (written text B B′ a h z t i .text)) (canonical-read text t i short) in
+    let zero : b .number ≡ 0 = ReadCalls.answers (take (a .count) B′) N N′ b g .success .1 (canonicalTree t, back, l) in
+    (zero, ReadCalls.tree-held (take (a .count) B′) N N′ b g zero (canonicalTree t) back)
+
+pub same-bytes :
+    (text other : Bytes) (B B′ C C′ : List ℕ) (a b : Answer) → Canonicalizes text B B′ a → Canonicalizes other C C′ b
+    → a .number ≡ 0 → b .number ≡ 0 → (t u : Tree) → TreeOf text t → TreeOf other u → (take (a .count) B′ ≡ take (b .count) C′) ↔ Agree t u
+same-bytes text other B B′ C C′ a b h k z y t u i j =
+    let p = written text B B′ a h z t i .text in
+    let q = written other C C′ b k y u j .text in
+    let s = canonical-same text other t u i j in
+    (λ e. s .0 (sym p ∙ e ∙ q), λ e. p ∙ s .1 e ∙ sym q)

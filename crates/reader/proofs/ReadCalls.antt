@@ -1,0 +1,88 @@
+-- Calls of `read`: five words to a node, 12 where they do not fit; what the node table then holds is the tree of the text.
+use mathlib.Core.Path.{_≡_, refl, sym, ap, subst, _∙_}
+use mathlib.Core.Bool.{Bool}
+use mathlib.Core.List.{List, _++_}
+use Prim.Native.Nat.{ℕ, _*_}
+use native.Mathlib.Omega.{arith}
+use lib.Dec.{leb}
+use lib.ListN.{length, take, drop}
+use lib.Seq.{take-append-seam, drop-append-seam}
+use borrow.Author.Tests.{leb-true, le-leb}
+use Rattle.grammar.specs.Bytes.{Bytes}
+use Rattle.grammar.specs.Outcome.{Outcome, refused, passed}
+use Rattle.grammar.specs.Tree.{Tree}
+use Rattle.grammar.specs.Nodes.{count, wordsPerNode}
+use Rattle.grammar.specs.Decoding.{decode, Ordered, Together}
+use Rattle.grammar.specs.Claim.{TreeOf}
+use Rattle.grammar.specs.Answer as G
+use Rattle.grammar.specs.Answer.{Reading, offsetOf, readText, readInto, readingWords, over}
+use Rattle.grammar.specs.Spelling.{TokenAt}
+use Rattle.grammar.proofs.Scanned.{length-tokens}
+use Rattle.grammar.proofs.TokenFaults.{token-at}
+use Rattle.grammar.proofs.Operands.{words-length}
+use Rattle.grammar.proofs.Readings.{reading-tree, reading-operated}
+use Rattle.grammar.proofs.Decoding.{decode-tree, nodes-ordered, subtree-together}
+use Rattle.grammar.proofs.Rules.{reading-of, same-tree}
+use Rattle.reader.specs.declared.Answer.{Answer}
+use Rattle.reader.specs.Answered.{resultOf, Reads}
+use Rattle.reader.specs.Demands.{RightAnswer, TableFits, TableHolds}
+use Rattle.reader.proofs.NodeCharacters as NodeCharacters
+use Rattle.reader.proofs.Calls as Calls
+use Rattle.reader.proofs.Calls.{served}
+
+tableFits : List ℕ → Reading → Bool
+tableFits N r = leb (wordsPerNode * count (r .tree)) (length N)
+
+nodesOf : Reading → ℕ
+nodesOf r = count (r .tree)
+
+-- Reading is such a service.
+reading :
+    (text : Bytes) (N N′ : List ℕ) (a : Answer) → Reads text N N′ a
+    → resultOf a N′ ≡ served 12 (tableFits N) nodesOf (readingWords text) N (readText text)
+unfolding G.read readInto served tableFits nodesOf
+reading text N N′ a h = h ∙ go (readText text)
+  where
+    go : (o : Outcome Reading) → readInto text N o ≡ served 12 (tableFits N) nodesOf (readingWords text) N o
+    go (refused n p) = refl
+    go (passed r) = refl
+
+pub answers : (text : Bytes) (N N′ : List ℕ) (a : Answer) → Reads text N N′ a → RightAnswer 12 (TableFits N) text N N′ a
+unfolding tableFits
+answers text N N′ a h =
+    Calls.answers 12 (tableFits N) nodesOf (readingWords text) (omega arith) text N N′ a (reading text N N′ a h) (TableFits N)
+    (λ r. (leb-true (wordsPerNode * count (r .tree)) (length N), le-leb (wordsPerNode * count (r .tree)) (length N)))
+
+-- The table that holds the words of what was read.
+module _ (text : Bytes) (N N′ : List ℕ) (r : Reading) (e : readText text ≡ passed r) (w : N′ ≡ over (readingWords text r) N) where
+  reading-holds : TableHolds text N N′ (count (r .tree)) (r .tree)
+  unfolding over readingWords
+  reading-holds =
+      let (h, is) = reading-tree text r e in
+      let v = drop (length (readingWords text r)) N in
+      let size = words-length (offsetOf text (r .tokens)) (r .tree) 0 0 (reading-operated text r e) in
+      record {
+        counted = refl;
+        decodes = rw w (decode-tree text (r .tokens) h (r .tree) is v);
+        ordered = λ k l. rw w (nodes-ordered text (r .tokens) h (r .tree) is v k l);
+        together = λ k l. rw w (subtree-together text (r .tokens) h (r .tree) is v k l);
+        offsets = offsetOf text (r .tokens);
+        begins =
+            λ i l.
+            subst (λ ts. TokenAt text ts i (offsetOf text (r .tokens) i)) (sym (is .tokens))
+            (token-at text (r .tokens) (h .scanned) i (offsetOf text (r .tokens) i)
+            (omega (arith, ap length (is .tokens), length-tokens (r .tokens))) .1 refl);
+        written = rw w (subst (λ n. take n (readingWords text r ++ v) ≡ readingWords text r) size (take-append-seam (readingWords text r) v));
+        characters = NodeCharacters.node-characters text r h is N N′ w;
+        declarations = NodeCharacters.node-blocks text r h is N N′ w;
+        behind = rw w (subst (λ n. drop n (readingWords text r ++ v) ≡ drop n N) size (drop-append-seam (readingWords text r) v));
+      }
+
+pub tree-held :
+    (text : Bytes) (N N′ : List ℕ) (a : Answer) → Reads text N N′ a → a .number ≡ 0 → (t : Tree) → TreeOf text t → TableHolds text N N′ (a .count) t
+unfolding nodesOf
+tree-held text N N′ a h z t i =
+    let (r, e, f, c, w) =
+    Calls.success-reads 12 (tableFits N) nodesOf (readingWords text) (omega arith) text N N′ a (reading text N N′ a h) z in
+    let same : r .tree ≡ t = same-tree text (r .tree) t (reading-of text r e) i in
+    rw c (subst (λ u. TableHolds text N N′ (count (r .tree)) u) same (reading-holds text N N′ r e w))

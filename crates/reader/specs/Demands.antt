@@ -1,0 +1,67 @@
+-- What the claims say of a call, in the terms of document 01.
+use mathlib.Core.Path.{_≡_}
+use mathlib.Core.Logic.{_↔_, _⊎_}
+use mathlib.Core.List.{List}
+use mathlib.Core.Option.{none, some}
+use Prim.Native.Nat.{ℕ, pred, _*_, _≤_, _<_}
+use lib.ListN.{length, take, drop, getD}
+use Rattle.grammar.specs.Bytes.{Bytes}
+use Rattle.grammar.specs.Token.{Token}
+use Rattle.grammar.specs.Declaration.{Declaration}
+use Rattle.grammar.specs.Spelling.{TokenAt}
+use Rattle.grammar.specs.Tree.{Tree, flat}
+use Rattle.grammar.specs.Nodes.{count, words, wordsPerNode}
+use Rattle.grammar.specs.Fault.{longestText, Fault, Past}
+use Rattle.grammar.specs.Decoding.{decode, Ordered, Together}
+use Rattle.grammar.specs.Claim.{nodeNames, nodeBlocks, FromLetToIn, FirstWithout, TreeOf, canonicalBytes}
+use Rattle.reader.specs.declared.Answer.{Answer}
+use Rattle.reader.specs.Answered.{nodeCharacters}
+
+-- Demand 1, of a service whose own refusal has the number `own` and is given where a tree does not fit. `B` is the lent buffer before the
+-- call, `B′` after it.
+pub record RightAnswer (own : ℕ) (Fits : Tree → Type 0) (text : Bytes) (B B′ : List ℕ) (a : Answer) : Type 0 where
+  -- There is no other number.
+  pub known : (a .number ≤ 11) ⊎ (a .number ≡ own)
+  -- Rows 1 to 10, and only these, where document 01 calls for them.
+  pub faults : (n p : ℕ) → ((a .number ≡ n) × (a .offset ≡ p) × (1 ≤ n) × (n ≤ 10)) ↔ Fault text n p
+  -- "11: span without a tree: 0, the `(`, or the `in`"
+  pub eleven : (p : ℕ) → ((a .number ≡ 11) × (a .offset ≡ p)) ↔ ((ts : List Token) × Past text ts × FirstWithout text ts p)
+  -- Number 0 exactly where there is a tree and it fits, the own number exactly where there is one and it does not; both have place 0.
+  pub success : (a .number ≡ 0) ↔ ((t : Tree) × TreeOf text t × Fits t)
+  pub tooShort : (a .number ≡ own) ↔ ((t : Tree) × TreeOf text t × (Fits t → ⊥))
+  pub placeZero : (a .number ≡ 0) ⊎ (a .number ≡ own) → a .offset ≡ 0
+  -- "Refused: count 0, buffers unchanged."
+  pub unchanged : (a .number ≡ 0 → ⊥) → (B′ ≡ B) × (a .count ≡ 0)
+
+-- "12: reading: node table too short"
+abbrev pub TableFits : List ℕ → Tree → Type 0
+TableFits N t = wordsPerNode * count t ≤ length N
+
+-- "13: tidying: tidy text over the buffer or 16,384"
+abbrev pub BufferFits : List ℕ → Tree → Type 0
+BufferFits B t = (length (canonicalBytes t) ≤ length B) × (length (canonicalBytes t) ≤ longestText)
+
+-- Demand 2: what the node table holds of the tree `t` where `c` nodes were counted.
+pub record TableHolds (text : Bytes) (N N′ : List ℕ) (c : ℕ) (t : Tree) : Type 0 where
+  pub counted : c ≡ count t
+  -- The text and the words give the tree back: "the root last".
+  pub decodes : decode text N′ (pred c) ≡ some t
+  -- "Children come before parents, left before right .. so the words of a subtree stand together in the node table."
+  pub ordered : (k : ℕ) → k < c → Ordered N′ k
+  pub together : (k : ℕ) → k < c → Together text N′ k
+  -- The words are those of the tree over the offsets at which the text's tokens begin.
+  pub offsets : ℕ → ℕ
+  pub begins : (i : ℕ) → i ≤ length (flat t) → TokenAt text (flat t) i (offsets i)
+  pub written : take (wordsPerNode * c) N′ ≡ words offsets t 0 0
+  -- "Offset and length give the name's characters, the number's digits or the operator's mark; .. a block has `let` to `in` inclusive."
+  pub characters : (k : ℕ) (s : Bytes) → getD (nodeNames t) k none ≡ some s → nodeCharacters text N′ k ≡ s
+  pub declarations : (k : ℕ) (ds : List Declaration) → getD (nodeBlocks t) k none ≡ some ds → FromLetToIn ds (nodeCharacters text N′ k)
+  -- "Words beyond the nodes keep their contents."
+  pub behind : drop (wordsPerNode * c) N′ ≡ drop (wordsPerNode * c) N
+
+-- What the buffer holds of the canonical text of the tree `t` where `c` bytes were counted.
+pub record BufferHolds (B B′ : List ℕ) (c : ℕ) (t : Tree) : Type 0 where
+  pub counted : c ≡ length (canonicalBytes t)
+  pub text : take c B′ ≡ canonicalBytes t
+  -- "Bytes of the buffer past the tidy text keep their contents."
+  pub behind : drop c B′ ≡ drop c B
