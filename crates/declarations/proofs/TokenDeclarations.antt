@@ -36,7 +36,7 @@ use Rattle.grammar.specs.Declaration.{
 use Rattle.grammar.specs.Declaration as D
 use Rattle.grammar.proofs.Logic.{impossible}
 use Rattle.grammar.proofs.Declarations.{declaration-sound, enter-end, enter-step}
-use Rattle.grammar.proofs.EnterComplete.{enter-fuel, unfit-refused}
+use Rattle.grammar.proofs.EnterBehind.{enter-fuel, unfit-refused}
 use Rattle.grammar.proofs.Operators.{distinct-declared}
 use Rattle.scan.specs.Tokens.{TokensFound}
 use Rattle.table.specs.Entries.{nameIn, IsCode}

@@ -34,8 +34,8 @@ use Rattle.grammar.specs.Answer.{
   writeInto,
   canonicalizeInto,
   canonicalize,
+  Result,
 }
-use Rattle.grammar.specs.Claim.{Proper}
 use Rattle.grammar.proofs.Operands.{Operated, words-length}
 use Rattle.grammar.proofs.Readings.{reading-operated}
 use Rattle.grammar.proofs.Logic.{and-left}
@@ -48,6 +48,14 @@ use Rattle.grammar.proofs.RefusalNumbers.{
   nesting-between,
   blocks-between,
 }
+
+-- The result of a service over the buffer `b`: its number is at most `most`; a refusal has count 0 and changes nothing in the
+-- buffer; the buffer keeps its length.
+pub record Proper (b : List ℕ) (most : ℕ) (r : Result) : Type 0 where
+  pub known : r .answer .number ≤ most
+  pub unchanged : (r .answer .number ≡ 0 → ⊥) → r .buffer ≡ b
+  pub nothingCounted : (r .answer .number ≡ 0 → ⊥) → r .answer .count ≡ 0
+  pub sameLength : length (r .buffer) ≡ length b
 
 spans-between : (text : Bytes) (ps : List Placed) (o : Option Tree) → Between 1 11 (readSpans text ps o)
 unfolding readSpans

@@ -32,7 +32,7 @@ use Rattle.grammar.specs.Declaration.{
 use Rattle.grammar.specs.Fault.{TakeEffect, unchanged, changed, DeclarationFault, malformed, overfull, unlawful}
 use Rattle.grammar.proofs.Logic.{clash, impossible}
 use Rattle.grammar.proofs.Declarations.{declaration-of, declaration-sound, enter-end, enter-step}
-use Rattle.grammar.proofs.EnterComplete.{Fits, parsed-shorter, enter-unfit, unfit-refused, overfull-refused, unlawful-refused}
+use Rattle.grammar.proofs.EnterBehind.{Fits, parsed-shorter, enter-unfit, unfit-refused, overfull-refused, unlawful-refused}
 use Rattle.grammar.proofs.Operators.{distinct-declared}
 use Rattle.grammar.proofs.ConditionsTest.{conditions-sound, conditions-complete}
 use Rattle.grammar.proofs.FirstUnfit.{unfit-first}

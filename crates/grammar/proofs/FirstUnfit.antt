@@ -52,16 +52,16 @@ abbrev pub withIn : List Token → List Token
 withIn ts = ts ++ structure keywordIn ∷ []
 
 -- Some tokens, one at least, are read to the end.
-abbrev Begins : (List Token → Parsed) → Type 0
-Begins read = (t : Token) × (rest : List Token) × (d : Declaration) × (read (t ∷ rest) ≡ parsed d [])
+abbrev BeginsOne : (List Token → Parsed) → Type 0
+BeginsOne read = (t : Token) × (rest : List Token) × (d : Declaration) × (read (t ∷ rest) ≡ parsed d [])
 
 -- A part of the reader whose first token has the number `n` stops at the token with the number `k`, behind `before` of its own tokens:
 -- whatever follows, and others in its place would be read to the end.
-record Stops (read : List Token → Parsed) (n : ℕ) (ts : List Token) (k : ℕ) : Type 0 where
+record StopsAt (read : List Token → Parsed) (n : ℕ) (ts : List Token) (k : ℕ) : Type 0 where
   before : ℕ
   counted : k ≡ n + before
   stops : (rest : List Token) → read (take (suc before) ts ++ rest) ≡ unfit k
-  begins : Begins (λ us. read (take before ts ++ us))
+  begins : BeginsOne (λ us. read (take before ts ++ us))
 
 no-unfit : {k : ℕ} {d : Declaration} {rest : List Token} → parsed d rest ≡ unfit k → ⊥
 no-unfit e = impossible cc
@@ -74,14 +74,14 @@ goOn n further ts o = elim o [ none ↦ unfit n | some x ↦ further x ts ]
 module _ (read : List Token → Parsed) (n : ℕ) {A : Type 0} (test : Token → Option A) (further : A → List Token → Parsed)
     (ended : read [] ≡ unfit n)
     (one : (t : Token) (ts : List Token) → read (t ∷ ts) ≡ goOn n further ts (test t))
-    (in-unfit : test (structure keywordIn) ≡ none) (begins : Begins read)
-    (next : (x : A) (ts : List Token) (k : ℕ) → further x ts ≡ unfit k → Stops (further x) (suc n) (withIn ts) k) where
-  here : (t : Token) (ts : List Token) (k : ℕ) → test t ≡ none → unfit n ≡ unfit k → Stops read n (t ∷ ts) k
+    (in-unfit : test (structure keywordIn) ≡ none) (begins : BeginsOne read)
+    (next : (x : A) (ts : List Token) (k : ℕ) → further x ts ≡ unfit k → StopsAt (further x) (suc n) (withIn ts) k) where
+  here : (t : Token) (ts : List Token) (k : ℕ) → test t ≡ none → unfit n ≡ unfit k → StopsAt read n (t ∷ ts) k
   here t ts k p e =
       let h : n ≡ k = cc in
       record { before = 0; counted = omega arith; stops = λ rest. one t rest ∙ rw p e; begins = begins }
 
-  beyond : (t : Token) (x : A) (ts : List Token) (k : ℕ) → test t ≡ some x → Stops (further x) (suc n) ts k → Stops read n (t ∷ ts) k
+  beyond : (t : Token) (x : A) (ts : List Token) (k : ℕ) → test t ≡ some x → StopsAt (further x) (suc n) ts k → StopsAt read n (t ∷ ts) k
   beyond t x ts k p s =
       let on : (us : List Token) → read (t ∷ us) ≡ further x us = λ us. one t us ∙ rw p refl in
       let (u, rest, d, e) = s .begins in
@@ -92,11 +92,11 @@ module _ (read : List Token → Parsed) (n : ℕ) {A : Type 0} (test : Token →
         begins = (u, rest, d, on (take (s .before) ts ++ u ∷ rest) ∙ e);
       }
 
-  part-stops : (ts : List Token) (k : ℕ) → read ts ≡ unfit k → Stops read n (withIn ts) k
+  part-stops : (ts : List Token) (k : ℕ) → read ts ≡ unfit k → StopsAt read n (withIn ts) k
   part-stops [] k e = here (structure keywordIn) [] k in-unfit (sym ended ∙ e)
   part-stops (t ∷ ts) k e = go (test t) refl
     where
-      go : (o : Option A) → test t ≡ o → Stops read n (t ∷ withIn ts) k
+      go : (o : Option A) → test t ≡ o → StopsAt read n (t ∷ withIn ts) k
       go none p = here t (withIn ts) k p (sym (one t ts ∙ rw p refl) ∙ e)
       go (some x) p = beyond t x (withIn ts) k p (next x ts k (sym (one t ts ∙ rw p refl) ∙ e))
 
@@ -105,7 +105,7 @@ abbrev passes : Bool → Option (Unit {0})
 passes true = some tt
 passes false = none
 
-closed-stops : (n : ℕ) (d : Declaration) (ts : List Token) (k : ℕ) → closed n d ts ≡ unfit k → Stops (closed n d) n (withIn ts) k
+closed-stops : (n : ℕ) (d : Declaration) (ts : List Token) (k : ℕ) → closed n d ts ≡ unfit k → StopsAt (closed n d) n (withIn ts) k
 unfolding closed isSemicolon isStructure structureNumber
 closed-stops n d =
     part-stops (closed n d) n (λ t. passes (isSemicolon t)) (λ u. parsed d) refl (λ t ts. one (isSemicolon t) ts) refl
@@ -118,7 +118,7 @@ closed-stops n d =
 
 operator-stops :
     (n : ℕ) (make : Bytes → Declaration) (ts : List Token) (k : ℕ) → operatorPart n make ts ≡ unfit k
-    → Stops (operatorPart n make) n (withIn ts) k
+    → StopsAt (operatorPart n make) n (withIn ts) k
 unfolding operatorPart symbolOf closed isSemicolon isStructure structureNumber
 operator-stops n make =
     part-stops (operatorPart n make) n symbolOf (λ m. closed (suc n) (make m)) refl (λ t ts. refl) refl
@@ -127,7 +127,7 @@ operator-stops n make =
 
 precedence-stops :
     (f : Fixity) (a : Associativity) (ts : List Token) (k : ℕ) → precedencePart f a ts ≡ unfit k
-    → Stops (precedencePart f a) 2 (withIn ts) k
+    → StopsAt (precedencePart f a) 2 (withIn ts) k
 unfolding precedencePart precedenceOf isPrecedence value valueFrom operatorPart symbolOf closed isSemicolon isStructure structureNumber
 precedence-stops f a =
     part-stops (precedencePart f a) 2 precedenceOf (λ d. operatorPart 3 (declares f a d)) refl (λ t ts. refl) refl
@@ -141,7 +141,7 @@ non-allowed Prefix = refl
 non-allowed Infix = refl
 non-allowed Postfix = refl
 
-non-begins : (f : Fixity) → Begins (associativityPart f)
+non-begins : (f : Fixity) → BeginsOne (associativityPart f)
 unfolding associativityPart associativityFor associativityNamed associativityWord same
     precedencePart precedenceOf isPrecedence value valueFrom operatorPart symbolOf closed isSemicolon isStructure structureNumber
 non-begins f = (
@@ -151,7 +151,7 @@ non-begins f = (
   rw (non-allowed f, associativityPart) refl,
 )
 
-associativity-stops : (f : Fixity) (ts : List Token) (k : ℕ) → associativityPart f ts ≡ unfit k → Stops (associativityPart f) 1 (withIn ts) k
+associativity-stops : (f : Fixity) (ts : List Token) (k : ℕ) → associativityPart f ts ≡ unfit k → StopsAt (associativityPart f) 1 (withIn ts) k
 unfolding associativityPart associativityFor symbolOf
 associativity-stops f =
     part-stops (associativityPart f) 1 (associativityFor f) (λ a. precedencePart f a) refl (λ t ts. refl) refl (non-begins f)
@@ -189,7 +189,7 @@ first-word w ts = go (same w plainWord) (fixityNamed w)
     go false none = refl
     go false (some f) = refl
 
-declaration-stops : (ts : List Token) (k : ℕ) → declaration ts ≡ unfit k → Stops declaration 0 (withIn ts) k
+declaration-stops : (ts : List Token) (k : ℕ) → declaration ts ≡ unfit k → StopsAt declaration 0 (withIn ts) k
 unfolding declaration symbolOf firstWord declarationTokens isDeclaration
 declaration-stops =
     part-stops declaration 0 (λ t. startOf (symbolOf t)) started refl one refl
@@ -203,7 +203,7 @@ declaration-stops =
         go none = refl
         go (some w) = first-word w ts
 
-    next : (s : Start) (ts : List Token) (k : ℕ) → started s ts ≡ unfit k → Stops (started s) 1 (withIn ts) k
+    next : (s : Start) (ts : List Token) (k : ℕ) → started s ts ≡ unfit k → StopsAt (started s) 1 (withIn ts) k
     next plain = operator-stops 1 clears
     next (fixity f) = associativity-stops f
 
@@ -211,7 +211,7 @@ declaration-stops =
 read-alone : (d : Declaration) (ts : List Token) → isDeclaration d ≡ true → declarationTokens d ≡ ts → declaration ts ≡ parsed d []
 read-alone d ts a e = ap declaration (sym e ∙ sym (append-nil (declarationTokens d))) ∙ declaration-of d [] a
 
-stops-first : (ts : List Token) (k : ℕ) → Stops declaration 0 ts k → FirstUnfit ts k
+stops-first : (ts : List Token) (k : ℕ) → StopsAt declaration 0 ts k → FirstUnfit ts k
 stops-first ts k s =
     let there : s .before ≡ k = omega (arith, s .counted) in
     let (t, rest, d, e) = s .begins in

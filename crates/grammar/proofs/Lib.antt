@@ -14,7 +14,7 @@ pub mod SpanSearch
 pub mod Numbers
 pub mod Declarations
 pub mod DeclarationTokens
-pub mod EnterComplete
+pub mod EnterBehind
 pub mod StripDeclarations
 pub mod Operators
 pub mod ConditionsTest

@@ -35,7 +35,7 @@ use Rattle.grammar.proofs.ItemLists.{andThen-passed, andThen-refused}
 use Rattle.grammar.proofs.RefusalNumbers.{scan-number, nesting-number, blocks-number}
 use Rattle.grammar.proofs.ConditionsTest.{conditions-start}
 use Rattle.grammar.proofs.Nested.{nesting-anywhere}
-use Rattle.grammar.proofs.TextTree.{treeOf-complete, tree-unique}
+use Rattle.grammar.proofs.TextTree.{treeOf-complete}
 use Rattle.grammar.proofs.TextSound.{Nested, treeIn-sound}
 use Rattle.grammar.proofs.Spans.{
   firstWithout-none,

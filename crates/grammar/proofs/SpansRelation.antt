@@ -24,14 +24,14 @@ use Rattle.grammar.proofs.ItemsRelation.{items-of, items-only}
 use Rattle.grammar.proofs.TextSound.{Nested, Known, known-items, pair-within, scope-within}
 
 -- Tokens past checks 6 to 10 under the operators `T`, with fuel `k` that is enough.
-abbrev PastChecks : ℕ → Table → List Token → Type 0
-PastChecks k T ts = Nested ts × (length ts < k) × ((n : ℕ) × (checkBlocks k T n ts ≡ passed tt))
+abbrev PastUnder : ℕ → Table → List Token → Type 0
+PastUnder k T ts = Nested ts × (length ts < k) × ((n : ℕ) × (checkBlocks k T n ts ≡ passed tt))
 
 -- What the checks say of an item of such tokens: what is inside is past them too, and declaration parts are declarations.
 abbrev ItemPast : ℕ → Table → Item → Type 0
 ItemPast k T (single a) = Unit {0}
-ItemPast k T (pair us) = PastChecks k T us
-ItemPast k T (scope ds us) = (allTokens (declarations ds) ≡ ds) × PastChecks k (bodyTable T ds) us
+ItemPast k T (pair us) = PastUnder k T us
+ItemPast k T (scope ds us) = (allTokens (declarations ds) ≡ ds) × PastUnder k (bodyTable T ds) us
 
 item-past : (k : ℕ) (T : Table) (x : Item) → Known k T x → ItemPast k T x
 unfolding bodyTable
@@ -42,7 +42,7 @@ item-past k T (scope ds us) h =
     let (d, a, e, l) = enter-sound T i ds U entered in
     (d, (h .0 .0 .1, scope-within k ds us (h .0 .1), (j, rw e at inner)))
 
-past-at : (k : ℕ) (T : Table) (ts : List Token) (xs : List Item) (x : Item) (ys : List Item) → PastChecks (suc k) T ts
+past-at : (k : ℕ) (T : Table) (ts : List Token) (xs : List Item) (x : Item) (ys : List Item) → PastUnder (suc k) T ts
     → items ts ≡ xs ++ x ∷ ys → ItemPast k T x
 past-at k T ts xs x ys (n, l, (i, c)) e =
     item-past k T x (all-right (Known k T) xs (x ∷ ys) (rw e at (known-items k T i ts n (omega arith) c)) .0)
@@ -117,7 +117,7 @@ inside-listed k s ts {r} xs x ys e m =
     List·Memᴰ·tail n
 
 -- A span in a span is listed for it.
-in-listed : {s r : Span} → SpanIn s r → (k : ℕ) (ts : List Token) → s .contents ≡ items ts → PastChecks k (s .table) ts → Listed k s ts r
+in-listed : {s r : Span} → SpanIn s r → (k : ℕ) (ts : List Token) → s .contents ≡ items ts → PastUnder k (s .table) ts → Listed k s ts r
 unfolding itemSpans bodyTable
 in-listed h zero ts c p = absurd (omega arith)
 in-listed {s} itself (suc k) ts c p = itself-listed k s ts c
@@ -131,7 +131,7 @@ in-listed {s} (inBody xs ds us ys ks e i h) (suc k) ts c p =
 
 -- What is listed for a span is a span in it: by induction on the fuel.
 abbrev ListedIn : ℕ → Type 0
-ListedIn k = (s : Span) (ts : List Token) → s .contents ≡ items ts → PastChecks k (s .table) ts → (r : Span) → Listed k s ts r → SpanIn s r
+ListedIn k = (s : Span) (ts : List Token) → s .contents ≡ items ts → PastUnder k (s .table) ts → (r : Span) → Listed k s ts r → SpanIn s r
 
 module _ (k : ℕ) (inner : ListedIn k) (s : Span) where
   item-listed-in :
@@ -145,7 +145,7 @@ module _ (k : ℕ) (inner : ListedIn k) (s : Span) where
       let es = declarations ds in
       inBody {s = s} xs es us ys (items us) (rw d e) (items-of us 0 (p .0 0)) (inner (bodySpan s xs es (items us)) us refl p r (rw d m))
 
-  span-listed-in : (ts : List Token) → s .contents ≡ items ts → PastChecks (suc k) (s .table) ts → (r : Span) → Listed (suc k) s ts r → SpanIn s r
+  span-listed-in : (ts : List Token) → s .contents ≡ items ts → PastUnder (suc k) (s .table) ts → (r : Span) → Listed (suc k) s ts r → SpanIn s r
   unfolding spans
   span-listed-in ts c p r m = which (List·Memᴰ·cases-cons m)
     where
@@ -169,5 +169,5 @@ span-listed ts n c s = (
   λ m. (items ts, items-of ts 0 n, listed-in (suc (length ts)) (wholeSpan (items ts)) ts refl past s m),
 )
   where
-    past : PastChecks (suc (length ts)) startTable ts
+    past : PastUnder (suc (length ts)) startTable ts
     past = ((λ j. nesting-anywhere ts [] 0 j n), omega arith, (0, c))

@@ -12,7 +12,6 @@ use Rattle.grammar.specs.Declaration.{Declaration, allTokens, startTable
 use Rattle.grammar.specs.SpanTree.{SpanTree, IsSpanTree}
 use Rattle.grammar.specs.Tree.{Tree, nothing, leaf, bracket, block, node, IsTree, flat, depth}
 use Rattle.grammar.specs.Canonical.{canonical, canonicalText, NoSpare}
-use Rattle.grammar.specs.Answer.{Result}
 use Rattle.grammar.specs.Operator.{Conditions, Table}
 use Rattle.grammar.specs.Spans.{startOf, Span, SpanOf}
 use Rattle.grammar.specs.Fault.{Past}
@@ -48,14 +47,6 @@ BlocksLawful T (leaf a) = Unit {0}
 BlocksLawful T (bracket t) = BlocksLawful T t
 BlocksLawful T (block ds t) = (areDeclarations ds ≡ true) × Conditions (declareAll T ds) × BlocksLawful (declareAll T ds) t
 BlocksLawful T (node l m r) = BlocksLawful T l × BlocksLawful T r
-
--- The result of a service over the buffer `b`: its number is at most `most`; a refusal has count 0 and changes nothing in the
--- buffer; the buffer keeps its length.
-pub record Proper (b : List ℕ) (most : ℕ) (r : Result) : Type 0 where
-  pub known : r .answer .number ≤ most
-  pub unchanged : (r .answer .number ≡ 0 → ⊥) → r .buffer ≡ b
-  pub nothingCounted : (r .answer .number ≡ 0 → ⊥) → r .answer .count ≡ 0
-  pub sameLength : length (r .buffer) ≡ length b
 
 -- A span without a tree.
 abbrev pub HasNoTree : Span → Type 0

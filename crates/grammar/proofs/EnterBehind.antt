@@ -1,5 +1,5 @@
--- Checks 8 to 10 refuse nothing that they should pass, and refuse where they should: each declaration that fits is read and takes
--- effect, so the answer in front of declarations is the answer behind them, and that is one step.
+-- The answer of checks 8 to 10 in front of declarations that fit is the answer behind them, since each of them is read and takes effect;
+-- what is refused there is one step.
 use mathlib.Core.Path.{_≡_, refl, sym, ap, _∙_}
 use mathlib.Core.Bool.{true, false}
 use mathlib.Core.List.{List, [], _∷_, _++_, append-assoc, append-nil}
@@ -9,7 +9,7 @@ use lib.ListN.{length, length-append}
 use borrow.Author.Tests.{le-leb, lt-leb}
 use Rattle.grammar.specs.Token.{Token}
 use Rattle.grammar.specs.Operator.{Table, lawfulTable}
-use Rattle.grammar.specs.Outcome.{refused, passed}
+use Rattle.grammar.specs.Outcome.{refused}
 use Rattle.grammar.specs.Declaration.{
   Declaration,
   declare,
