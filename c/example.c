@@ -4,6 +4,10 @@
 #include <stdio.h>
 #include <string.h>
 
+#if RULE_READER_VERSION_MAJOR != 1
+#error "written for version 1 of rule_reader.h"
+#endif
+
 static const char *const numbers[] = {
     "RULE_READ", "RULE_TEXT_TOO_LONG", "RULE_BAD_BYTE", "RULE_BAD_QUOTED_NAME", "RULE_TOKEN_TOO_LONG",
     "RULE_TOO_MANY_TOKENS", "RULE_UNMATCHED", "RULE_TOO_DEEP", "RULE_BAD_DECLARATION", "RULE_TOO_MANY_OPERATORS",

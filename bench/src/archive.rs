@@ -1,4 +1,4 @@
-//! The proved reader, by the archive that `rt staticlib archive` writes.
+//! The proved reader, by the archive that `rt staticlib rule_reader` writes.
 
 use rule_bench::reader::Answer;
 

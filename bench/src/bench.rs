@@ -22,15 +22,35 @@ const CANONICALIZE: [(&str, Call<u8>); 1] = [("Rust ns", reader::canonicalize)];
 const CANONICALIZE: [(&str, Call<u8>); 2] =
     [("Rust ns", reader::canonicalize), ("archive ns", crate::archive::canonicalize)];
 
-pub fn rows() -> Vec<(&'static str, String)> {
+/// A text, and the number and the place of its refusal, 0 and 0 if it is read.
+struct Row {
+    name: &'static str,
+    text: String,
+    refused: (u8, usize),
+}
+
+fn rows() -> Vec<Row> {
+    let read = |name, text: String| Row { name, text, refused: (0, 0) };
+    let refused = |name, number, text: &str| Row { name, text: text.into(), refused: (number, 0) };
     vec![
-        ("typical rule", "age < 18 and not member or visits * 2 + guests = limit - 1".into()),
-        ("a, 511 x ` + a`", format!("a{}", " + a".repeat(511))),
-        ("1,023 x `not `, a", format!("{}a", "not ".repeat(1023))),
-        ("32 nested brackets", format!("{}a{}", "(".repeat(32), ")".repeat(32))),
-        ("32 nested blocks", nested_blocks()),
-        ("64 operators, 340 uses", declared_operators()),
+        read("12 bytes", "visits < 100".into()),
+        read("typical rule", "age < 18 and not member or visits * 2 + guests = limit - 1".into()),
+        read("three declarations", three_declarations()),
+        read("a, 511 x ` + a`", format!("a{}", " + a".repeat(511))),
+        read("1,023 x `not `, a", format!("{}a", "not ".repeat(1023))),
+        read("32 nested brackets", format!("{}a{}", "(".repeat(32), ")".repeat(32))),
+        read("32 nested blocks", nested_blocks()),
+        read("64 operators, 340 uses", declared_operators()),
+        refused("bad first byte", 2, "\"age\" < 18 and not member or visits * 2 + guests = limit"),
+        refused("no tree", 11, "age < 18 and not member or visits * 2 + guests = limit = 1"),
     ]
+}
+
+/// A block with an operator of each fixity, each used.
+fn three_declarations() -> String {
+    "let infix left 350 // ; prefix right 650 no ; postfix left 250 twice ; \
+     in no member and visits twice // 2 < limit end"
+        .into()
 }
 
 /// Each block declares one operator and uses it.
@@ -99,10 +119,10 @@ fn times<T, const N: usize>(
 ) -> Result<(), String> {
     let rows = rows();
     let mut timers = Vec::new();
-    for (name, text) in &rows {
+    for Row { name, text, refused } in &rows {
         for (reader, call) in readers {
             let answer = call(text.as_bytes(), buffer);
-            if answer.number != 0 {
+            if (answer.number, answer.offset) != *refused {
                 return Err(format!("{name}, {reader}: {answer:?}"));
             }
         }
@@ -110,16 +130,20 @@ fn times<T, const N: usize>(
     }
     // Turn by turn, so that a busy moment of the machine spoils no row.
     for _ in 0..RUNS {
-        for ((_, text), timers) in rows.iter().zip(&mut timers) {
+        for (Row { text, .. }, timers) in rows.iter().zip(&mut timers) {
             timers.iter_mut().for_each(|timer| timer.run(text.as_bytes(), buffer));
         }
     }
-    print!("{:<24} {:>6} {:>7}", titles[0], "bytes", titles[1]);
+    print!("{:<24} {:>6} {:>10}", titles[0], "bytes", titles[1]);
     readers.iter().for_each(|(reader, _)| print!(" {reader:>12}"));
     println!("{}", if N > 1 { "   ratio" } else { "" });
-    for ((name, text), timers) in rows.iter().zip(&timers) {
-        let count = readers[0].1(text.as_bytes(), buffer).count;
-        print!("{name:<24} {:>6} {count:>7}", text.len());
+    for (Row { name, text, .. }, timers) in rows.iter().zip(&timers) {
+        let answer = readers[0].1(text.as_bytes(), buffer);
+        let result = match answer.number {
+            0 => answer.count.to_string(),
+            number => format!("refused {number}"),
+        };
+        print!("{name:<24} {:>6} {result:>10}", text.len());
         timers.iter().for_each(|timer| print!(" {:>12.1}", timer.best));
         match &timers[..] {
             [rust, archive] => println!(" {:>7.2}", archive.best / rust.best),

@@ -6,6 +6,7 @@ use Rattle.grammar.specs.Answer as Answer
 use Rattle.grammar.specs.Blocks as Blocks
 use Rattle.grammar.specs.Bytes as Bytes
 use Rattle.grammar.specs.Canonical as Canonical
+use Rattle.grammar.specs.Climb as Climb
 use Rattle.grammar.specs.Coded as Coded
 use Rattle.grammar.specs.Declaration as Declaration
 use Rattle.grammar.specs.Listing as Listing
@@ -14,7 +15,6 @@ use Rattle.grammar.specs.Nodes as Nodes
 use Rattle.grammar.specs.Operator as Operator
 use Rattle.grammar.specs.Outcome as Outcome
 use Rattle.grammar.specs.Scan as Scan
-use Rattle.grammar.specs.Search as Search
 use Rattle.grammar.specs.Span as Span
 use Rattle.grammar.specs.SpanTree as SpanTree
 use Rattle.grammar.specs.Spelling as Spelling
@@ -32,7 +32,35 @@ computed :
     × (Listing.listing 25 9 (bytes "a + b * 3") ≡ t3Listing)
     × (map (λ c. Listing.listing 1000 2000 (c .text)) cases ≡ map (λ c. c .listing) cases)
     × (map Limits.given limits ≡ map Limits.asked limits)
-unfolding Answer.tokensOf Answer.startsOf Answer.offsetOf Answer.spanOffset Answer.readSpans Answer.readTokens Answer.readText Answer.rejection Answer.success Answer.over Answer.readingWords Answer.readInto Answer.read Answer.readingText Answer.writeInto Answer.canonicalizeInto Answer.canonicalize Blocks.bodyTable Blocks.checkItem Blocks.checkItems Blocks.checkBlocks Blocks.itemSpans Blocks.allItemSpans Blocks.spans Blocks.firstWithout Blocks.treelessOpener Blocks.underBracket Blocks.underBlock Blocks.underOperator Blocks.hangItem Blocks.hang Blocks.hangFound Blocks.treeIn Blocks.treeOf Bytes.same Bytes.member Bytes.every Bytes.isEmpty Canonical.withoutZeros Canonical.orZero Canonical.strip Canonical.stripDeclaration Canonical.writtenName Canonical.writtenAtom Canonical.fitted Canonical.canonical Canonical.spaced Canonical.joinTokens Canonical.canonicalText Coded.kindOf Coded.charactersIn Coded.tokenOf Coded.tokenAt Coded.tokensFrom Declaration.valueFrom Declaration.value Declaration.declare Declaration.declareAll Declaration.startDeclarations Declaration.startTable Declaration.fixityWord Declaration.associativityWord Declaration.declarationTokens Declaration.allTokens Declaration.isPrecedence Declaration.symbolOf Declaration.precedenceOf Declaration.isSemicolon Declaration.fixityNamed Declaration.associativityNamed Declaration.closed Declaration.operatorPart Declaration.precedencePart Declaration.associativityFor Declaration.associativityPart Declaration.firstWord Declaration.declaration Declaration.operatorPlace Declaration.checkedAt Declaration.hasRoom Declaration.enter Declaration.declarationsOf Declaration.declarations Listing.decimalIn Listing.decimal Listing.kindNames Listing.field Listing.nodeLines Listing.refusalLine Listing.canonicalLines Listing.readingLines Listing.listingOf Listing.listing Nesting.outermost Nesting.within Nesting.move Nesting.closeInnermost Nesting.nesting Nodes.leafKind Nodes.charactersOffset Nodes.count Nodes.nodeWords Nodes.operatorWords Nodes.words Operator.sameFixity Operator.sameAssociativity Operator.allowed Operator.role Operator.isSome Operator.hasRole Operator.inForce Operator.replaced Operator.declareRole Operator.removeRoles Operator.onePrecedenceTest Operator.only Operator.absentRole Operator.besideInfix Operator.lawfulAssociativities Operator.lawful Operator.lawfulTable Operator.listed Outcome.andThen Outcome.placed Scan.run Scan.keywordOrSymbol Scan.atMost Scan.quotedName Scan.frontOf Scan.front Scan.before Scan.scan Search.firstRole Search.precedence Search.symbolAt Search.operatorAt Search.operatorOf Search.precedenceAt Search.widest Search.shifted Search.firstOf Search.lastHere Search.lastOf Search.couldBeRight Search.rootIn Search.rootOf Search.joined Search.lone Search.partTree Search.treeOfSpan Span.itemTokens Span.effect Span.ownItem Span.isIn Span.beforeIn Span.afterIn Span.item Span.itemsFrom Span.items SpanTree.yield SpanTree.present SpanTree.fixityBy SpanTree.fixity SpanTree.roleOfFixity SpanTree.roleOver SpanTree.root SpanTree.rootPrecedence SpanTree.isLeft SpanTree.isRight SpanTree.rightRoot SpanTree.admitsEqual SpanTree.admits SpanTree.admitsBoth SpanTree.isOperandAtom SpanTree.isOperand Spelling.continues Token.class Token.isBlankByte Token.beginsWord Token.inWord Token.inSign Token.inNumber Token.inQuotes Token.characters Token.spelling Token.structureNumber Token.isStructure Token.isKeyword Token.isWord Token.isSign Token.isNumber Token.isSymbol Tree.flat Tree.spanTree limits Limits.repeated Limits.declared Limits.longNames
+unfolding Answer.tokensOf Answer.startsOf Answer.offsetOf Answer.spanOffset Answer.readSpans Answer.readTokens Answer.readText
+    Answer.rejection Answer.success Answer.over Answer.readingWords Answer.readInto Answer.read Answer.readingText
+    Answer.writeInto Answer.canonicalizeInto Answer.canonicalize Blocks.bodyTable Blocks.checkItem Blocks.checkItems
+    Blocks.checkBlocks Blocks.itemSpans Blocks.allItemSpans Blocks.spans Blocks.firstWithout Blocks.treelessOpener
+    Blocks.underBracket Blocks.underBlock Blocks.underOperator Blocks.hangItem Blocks.hang Blocks.hangFound Blocks.treeIn
+    Blocks.treeOf Bytes.same Bytes.member Bytes.every Bytes.isEmpty Canonical.withoutZeros Canonical.orZero Canonical.strip
+    Canonical.stripDeclaration Canonical.writtenName Canonical.writtenAtom Canonical.fitted Canonical.canonical Canonical.spaced
+    Canonical.joinTokens Canonical.canonicalText Climb.symbolAt Climb.firstRole Climb.leftRole Climb.givesWay Climb.pushed
+    Climb.closed Climb.run Climb.fits Climb.admittedTest Climb.checked Climb.climb Coded.kindOf Coded.tokenOf
+    Declaration.valueFrom Declaration.value Declaration.declare Declaration.declareAll
+    Declaration.startDeclarations Declaration.startTable Declaration.fixityWord Declaration.associativityWord
+    Declaration.declarationTokens Declaration.allTokens Declaration.isPrecedence Declaration.symbolOf Declaration.precedenceOf
+    Declaration.isSemicolon Declaration.fixityNamed Declaration.associativityNamed Declaration.closed Declaration.operatorPart
+    Declaration.precedencePart Declaration.associativityFor Declaration.associativityPart Declaration.firstWord
+    Declaration.declaration Declaration.operatorPlace Declaration.checkedAt Declaration.hasRoom Declaration.enter
+    Declaration.declarationsOf Declaration.declarations Listing.decimalIn Listing.decimal Listing.kindNames Listing.field
+    Listing.nodeLines Listing.refusalLine Listing.canonicalLines Listing.readingLines Listing.listingOf Listing.listing
+    Nesting.outermost Nesting.within Nesting.move Nesting.closeInnermost Nesting.nesting Nodes.leafKind Nodes.charactersOffset
+    Nodes.count Nodes.nodeWords Nodes.operatorWords Nodes.words Operator.sameFixity Operator.sameAssociativity Operator.allowed
+    Operator.role Operator.isSome Operator.hasRole Operator.inForce Operator.replaced Operator.declareRole Operator.removeRoles
+    Operator.onePrecedenceTest Operator.only Operator.absentRole Operator.besideInfix Operator.lawfulAssociativities
+    Operator.lawful Operator.lawfulTable Operator.listed Outcome.andThen Outcome.placed Scan.run Scan.keywordOrSymbol Scan.atMost
+    Scan.quotedName Scan.frontOf Scan.front Scan.before Scan.scan Span.itemTokens Span.effect Span.ownItem Span.isIn Span.beforeIn
+    Span.afterIn Span.item Span.itemsFrom Span.items SpanTree.yield SpanTree.present SpanTree.fixityBy SpanTree.fixity
+    SpanTree.roleOfFixity SpanTree.roleOver SpanTree.root SpanTree.rootPrecedence SpanTree.isLeft SpanTree.isRight
+    SpanTree.rightRoot SpanTree.admitsEqual SpanTree.admits SpanTree.admitsBoth SpanTree.isOperandAtom SpanTree.isOperand
+    Spelling.continues Token.class Token.isBlankByte Token.beginsWord Token.inWord Token.inSign Token.inNumber Token.inQuotes
+    Token.characters Token.spelling Token.structureNumber Token.isStructure Token.isKeyword Token.isWord Token.isSign
+    Token.isNumber Token.isSymbol Tree.flat Tree.spanTree limits Limits.repeated Limits.declared Limits.longNames
 computed = (refl, refl, refl, refl)
 
 -- What both services answer and leave in the buffers is what document 01 says, for each of T1 to T14.

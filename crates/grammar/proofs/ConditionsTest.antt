@@ -245,5 +245,6 @@ conditions-complete T p c = found-lawful T p (λ m. lawful-complete (role T m) (
 
 -- The eight operators at the start satisfy the conditions.
 pub conditions-start : Conditions startTable
-unfolding startTable startDeclarations declareAll declare declareRole same value valueFrom replaced sameFixity lawfulTable lawful onePrecedenceTest lawfulAssociativities besideInfix only absentRole sameAssociativity
+unfolding startTable startDeclarations declareAll declare declareRole same value valueFrom replaced sameFixity
+    lawfulTable lawful onePrecedenceTest lawfulAssociativities besideInfix only absentRole sameAssociativity
 conditions-start = conditions-sound startTable refl

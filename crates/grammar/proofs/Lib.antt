@@ -8,9 +8,6 @@ pub mod Offsets
 pub mod TextParts
 pub mod NoTokens
 pub mod TokenFaults
-pub mod SpanRoot
-pub mod SpanFound
-pub mod SpanSearch
 pub mod Numbers
 pub mod Declarations
 pub mod DeclarationTokens
@@ -18,6 +15,11 @@ pub mod EnterBehind
 pub mod StripDeclarations
 pub mod Operators
 pub mod ConditionsTest
+pub mod Climb
+pub mod AdmittingRole
+pub mod WidestRoot
+pub mod Unambiguous
+pub mod ClimbComplete
 pub mod FirstUnfit
 pub mod DeclarationFaults
 pub mod Items
@@ -33,7 +35,6 @@ pub mod TextTree
 pub mod BlocksLawful
 pub mod TextSound
 pub mod Spans
-pub mod NodeCount
 pub mod SpanOrder
 pub mod SpansRelation
 pub mod BlockFaults

@@ -34,7 +34,7 @@ use Rattle.grammar.specs.Spelling.{continues, Stops}
 use Rattle.grammar.specs.Outcome.{Outcome, refused, passed}
 use Rattle.grammar.specs.Scan.{Placed, run, Front, nothing, wrong, taken, front, before, scan}
 use Rattle.grammar.specs.Nodes.{charactersOffset}
-use Rattle.grammar.specs.Coded.{kindOf, charactersIn, tokenOf, tokenAt, tokensFrom, kindAt, startAt, sizeAt}
+use Rattle.grammar.specs.Coded.{kindOf, tokenOf}
 use Rattle.grammar.specs.Answer.{tokensOf}
 use Rattle.grammar.proofs.Lists.{all-map}
 use Rattle.grammar.proofs.Runs.{ran, front-spelled}
@@ -114,7 +114,7 @@ module _ {p : Placed} {ps : List Placed} where
       let (same, further) = before-passed _ _ f in
       subst (λ q. First at s q ps) same (first-taken room at s t m ps e further)
 
-  pub first-size : (at : ℕ) (s : Bytes) (f : First at s p ps) → length s ≡ length (f .gap) + (sizeAt p + length (f .rest))
+  pub first-size : (at : ℕ) (s : Bytes) (f : First at s p ps) → length s ≡ length (f .gap) + (length (spelling (p .token)) + length (f .rest))
   first-size at s f =
       ap length (f .written)
       ∙ length-append (f .gap) (spelling (p .token) ++ f .rest)
@@ -136,7 +136,7 @@ module _ {p : Placed} {ps : List Placed} where
       ahead = ap₂ drop offset (f .written) ∙ drop-append-seam (f .gap) (spelling (p .token) ++ f .rest)
 
   -- .. and what stands in the text behind it stands in the whole.
-  behind-stands : (at : ℕ) (s : Bytes) (f : First at s p ps) (q : Placed) → Stands (p .start + sizeAt p) (f .rest) q → Stands at s q
+  behind-stands : (at : ℕ) (s : Bytes) (f : First at s p ps) (q : Placed) → Stands (p .start + length (spelling (p .token))) (f .rest) q → Stands at s q
   behind-stands at s f q (low, high, (v, e), g) = (
     omega (arith, f .starts),
     omega (arith, f .starts, first-size at s f),
@@ -145,15 +145,15 @@ module _ {p : Placed} {ps : List Placed} where
   )
     where
       n : ℕ
-      n = q .start - (p .start + sizeAt p)
+      n = q .start - (p .start + length (spelling (p .token)))
 
-      offset : q .start - at ≡ length (f .gap) + (sizeAt p + n)
+      offset : q .start - at ≡ length (f .gap) + (length (spelling (p .token)) + n)
       offset = omega (arith, f .starts)
 
       ahead : drop (q .start - at) s ≡ drop n (f .rest)
       ahead =
           ap₂ drop offset (f .written)
-          ∙ drop-append-add (f .gap) (spelling (p .token) ++ f .rest) (sizeAt p + n)
+          ∙ drop-append-add (f .gap) (spelling (p .token) ++ f .rest) (length (spelling (p .token)) + n)
           ∙ drop-append-add (spelling (p .token)) (f .rest) n
 
 -- Each token's spelling stands in the text at its offset.
@@ -191,17 +191,6 @@ characters-stand text (quoted n) start rest e =
     ap (take (length n)) (sym (drop-drop 1 start text) ∙ ap (drop 1) e ∙ append-assoc n (39 ∷ []) rest)
     ∙ take-append-seam n (39 ∷ rest)
 
--- .. and are read off it by the token's kind, offset and length.
-pub characters-coded :
-    (text : Bytes) (a : Atom) (start : ℕ) (rest : Bytes) → drop start text ≡ spelling (atom a) ++ rest
-    → charactersIn text (kindOf (atom a)) start (length (spelling (atom a))) ≡ characters a
-unfolding charactersIn kindOf spelling characters charactersOffset
-characters-coded text (symbol w) start rest e = characters-stand text (symbol w) start rest e
-characters-coded text (number d) start rest e = characters-stand text (number d) start rest e
-characters-coded text (quoted n) start rest e =
-    let inside : length (spelling (atom (quoted n))) - 2 ≡ length n = omega (arith, length-append n (39 ∷ [])) in
-    ap (λ k. take k (drop (start + 1) text)) inside ∙ characters-stand text (quoted n) start rest e
-
 -- The kind and the characters of an atom, or the kind of a token of structure, give it back.
 pub atom-coded : (a : Atom) → tokenOf (kindOf (atom a)) (characters a) ≡ atom a
 unfolding tokenOf kindOf characters
@@ -217,34 +206,3 @@ structure-coded semicolon c = refl
 structure-coded keywordLet c = refl
 structure-coded keywordIn c = refl
 structure-coded keywordEnd c = refl
-
--- The token that stands at its offset is read off the text by its kind, offset and length.
-pub token-read :
-    (text : Bytes) (t : Token) (start : ℕ) (rest : Bytes) → drop start text ≡ spelling t ++ rest
-    → tokenOf (kindOf t) (charactersIn text (kindOf t) start (length (spelling t))) ≡ t
-token-read text (atom a) start rest e = ap (tokenOf (kindOf (atom a))) (characters-coded text a start rest e) ∙ atom-coded a
-token-read text (structure s) start rest e = structure-coded s (charactersIn text (kindOf (structure s)) start (length (spelling (structure s))))
-
--- Arrays without their first elements.
-tokens-behind :
-    (text : Bytes) (k s z : ℕ) (K S Z : List ℕ) (i n : ℕ)
-    → tokensFrom text (k ∷ K) (s ∷ S) (z ∷ Z) (suc i) n ≡ tokensFrom text K S Z i n
-unfolding tokensFrom tokenAt
-tokens-behind text k s z K S Z i zero = refl
-tokens-behind text k s z K S Z i (suc n) = ap (_∷_ (tokenAt text K S Z i)) (tokens-behind text k s z K S Z (suc i) n)
-
-arrays-hold :
-    (text : Bytes) (ps : List Placed) (K S Z : List ℕ) → All (StandsIn text) ps
-    → tokensFrom text (map kindAt ps ++ K) (map startAt ps ++ S) (map sizeAt ps ++ Z) 0 (length ps) ≡ tokensOf ps
-unfolding tokensFrom tokenAt tokensOf
-arrays-hold text [] K S Z h = refl
-arrays-hold text (p ∷ ps) K S Z h =
-    ap₂ _∷_ (token-read text (p .token) (p .start) (h .0 .0) (h .0 .1))
-    (tokens-behind text _ _ _ _ _ _ 0 (length ps) ∙ arrays-hold text ps K S Z (h .1))
-
--- Arrays that begin with the kinds, offsets and lengths of a text's tokens hold these tokens.
-pub arrays-tokens :
-    (room : ℕ) (text : Bytes) (ps : List Placed) (K S Z K′ S′ Z′ : List ℕ) → scan room 0 text ≡ passed ps
-    → K ≡ map kindAt ps ++ K′ → S ≡ map startAt ps ++ S′ → Z ≡ map sizeAt ps ++ Z′
-    → tokensFrom text K S Z 0 (length ps) ≡ tokensOf ps
-arrays-tokens room text ps K S Z K′ S′ Z′ h k s z = rw (k, s, z) (arrays-hold text ps K′ S′ Z′ (tokens-stand room text ps h))

@@ -11,11 +11,11 @@ use Rattle.grammar.specs.Declaration.{declareAll, allTokens, declaration
 use Rattle.grammar.specs.Span.{Item, single, pair, scope, items}
 use Rattle.grammar.specs.SpanTree.{SpanTree, missing, operand, apply, present, fixity, Admitted}
 use Rattle.grammar.specs.Tree.{Tree, nothing, leaf, bracket, block, node, flat, spanTree, InnerOk}
-use Rattle.grammar.specs.Search.{treeOfSpan}
+use Rattle.grammar.specs.Climb.{climb}
 use Rattle.grammar.specs.Blocks.{hangItem, hang, hangFound, treeIn}
 use Rattle.grammar.specs.Nodes.{count, nodeWords, wordsPerNode, operatorWords, words}
-use Rattle.grammar.proofs.SpanRoot.{admitting-role}
-use Rattle.grammar.proofs.SpanSearch.{treeOfSpan-sound}
+use Rattle.grammar.proofs.AdmittingRole.{admitting-role}
+use Rattle.grammar.proofs.Climb.{climb-sound}
 use Rattle.grammar.proofs.Hung.{underBracket-some, underBlock-some, underOperator-some}
 use Rattle.grammar.proofs.Logic.{impossible}
 
@@ -93,12 +93,12 @@ module _ (inner : Table → List Token → Option Tree) (ih : (T : Table) (ts : 
         (c .form, rw (hang-present inner T l (h .0) (h .2), hang-present inner T r (h .1) (h .3)) (c .formed)),
       )
 
-  found-operated : (T : Table) (ts : List Token) (t : Tree) (f : Option SpanTree) → treeOfSpan T (items ts) ≡ f → hangFound inner T f ≡ some t → Operated t
+  found-operated : (T : Table) (ts : List Token) (t : Tree) (f : Option SpanTree) → climb T (items ts) ≡ f → hangFound inner T f ≡ some t → Operated t
   unfolding hangFound
   found-operated T ts t none q e = impossible cc
-  found-operated T ts t (some s) q e = hang-operated T s t (treeOfSpan-sound T (items ts) s q .admitted) e
+  found-operated T ts t (some s) q e = hang-operated T s t (climb-sound T (items ts) s q .admitted) e
 
 pub treeIn-operated : (k : ℕ) (T : Table) (ts : List Token) (t : Tree) → treeIn k T ts ≡ some t → Operated t
 unfolding treeIn
 treeIn-operated zero T ts t e = impossible cc
-treeIn-operated (suc k) T ts t e = found-operated (treeIn k) (treeIn-operated k) T ts t (treeOfSpan T (items ts)) refl e
+treeIn-operated (suc k) T ts t e = found-operated (treeIn k) (treeIn-operated k) T ts t (climb T (items ts)) refl e

@@ -134,7 +134,7 @@ role-removed-other m n (o ∷ T) g e = go (same m (o .name)) refl (role-removed-
     go false d h = rw (d, removeRoles) (role-behind o (removeRoles m T) T n g h)
 
 -- A role in force behind a declaration is the declared one, or was in force before it.
-role-after-declared :
+pub role-after-declared :
     (m n : Bytes) (f g : Fixity) (r b : Role) (T : Table) → role (declareRole m f r T) n g ≡ some b
     → (r ≡ b) ⊎ (role T n g ≡ some b)
 unfolding replaced
@@ -150,7 +150,7 @@ role-after-declared m n f g r b T e = go (same n m) refl
         rw h (within (sameFixity f g) refl (sym (role-replaced m f r T g) ∙ (rw h at e)))
     go false d = inr (sym (role-declared-other m n f g r T d) ∙ e)
 
-role-after-removed : (m n : Bytes) (g : Fixity) (b : Role) (T : Table) → role (removeRoles m T) n g ≡ some b → role T n g ≡ some b
+pub role-after-removed : (m n : Bytes) (g : Fixity) (b : Role) (T : Table) → role (removeRoles m T) n g ≡ some b → role T n g ≡ some b
 role-after-removed m n g b T e = go (same n m) refl
   where
     go : (c : Bool) → same n m ≡ c → role T n g ≡ some b
@@ -267,12 +267,17 @@ or-true : (a : Bool) → a || true ≡ true
 or-true true = refl
 or-true false = refl
 
--- An operator has the role that was declared.
+-- An operator with a role of some fixity has a role, ..
+pub has-role : (r : Roles) (f : Fixity) (q : Role) → r f ≡ some q → hasRole r ≡ true
+unfolding hasRole isSome
+has-role r Prefix q e = rw e
+has-role r Infix q e = rw (e, or-true (isSome (r Prefix)))
+has-role r Postfix q e = rw e (or-true (isSome (r Prefix) || isSome (r Infix)))
+
+-- .. so one has the role that was declared.
 replaced-has-role : (f : Fixity) (r : Role) (old : Roles) → hasRole (replaced f r old) ≡ true
-unfolding hasRole isSome replaced sameFixity
-replaced-has-role Prefix r old = refl
-replaced-has-role Infix r old = rw (or-true (isSome (old Prefix)))
-replaced-has-role Postfix r old = or-true (isSome (old Prefix) || isSome (old Infix))
+unfolding replaced
+replaced-has-role f r old = has-role (replaced f r old) f r (rw (fixity-refl f, replaced))
 
 pub alive-declared : (T : Table) (ds : List Declaration) → Alive T → Alive (declareAll T ds)
 alive-declared =

@@ -20,7 +20,7 @@ use Rattle.grammar.specs.Declaration.{startTable}
 use Rattle.grammar.specs.Nesting.{nesting}
 use Rattle.grammar.specs.SpanTree.{SpanTree}
 use Rattle.grammar.specs.Tree.{Tree, IsTree}
-use Rattle.grammar.specs.Search.{treeOfSpan}
+use Rattle.grammar.specs.Climb.{climb}
 use Rattle.grammar.specs.Blocks.{firstWithout, checkBlocks, treeOf, treelessOpener, treeIn}
 use Rattle.grammar.specs.Answer.{Reading, PastChecks, tokensOf, offsetOf, spanOffset, readSpans, readTokens, readText, spansOf}
 use Rattle.grammar.specs.Claim.{HasNoTree}
@@ -29,7 +29,9 @@ use Rattle.grammar.proofs.CheckedTrees.{IsCheckedTree, checked-tree}
 use Rattle.grammar.proofs.BlocksLawful.{tree-checked}
 use Rattle.grammar.proofs.Operands.{Operated, treeIn-operated}
 use Rattle.grammar.proofs.Lists.{all-right}
-use Rattle.grammar.proofs.SpanSearch.{treeOfSpan-sound, treeOfSpan-complete}
+use Rattle.grammar.proofs.Climb.{climb-sound}
+use Rattle.grammar.proofs.Unambiguous.{conditions-unambiguous}
+use Rattle.grammar.proofs.ClimbComplete.{climb-complete}
 use Rattle.grammar.proofs.SpanOrder.{first-by-start}
 use Rattle.grammar.proofs.ItemLists.{andThen-passed, andThen-refused}
 use Rattle.grammar.proofs.RefusalNumbers.{scan-number, nesting-number, blocks-number}
@@ -155,12 +157,12 @@ tree-read text ps h t i =
 span-among : (ss xs ys : List Span) (s : Span) → ss ≡ xs ++ s ∷ ys → List·Memᴰ s ss
 span-among ss xs ys s e = rw e (Memᴰ·append-right xs (List·Memᴰ·head refl))
 
-not-found : (s : Span) → HasNoTree s → treeOfSpan (s .table) (s .contents) ≡ none
-not-found s h = go (treeOfSpan (s .table) (s .contents)) refl
+not-found : (s : Span) → HasNoTree s → climb (s .table) (s .contents) ≡ none
+not-found s h = go (climb (s .table) (s .contents)) refl
   where
-    go : (o : Option SpanTree) → treeOfSpan (s .table) (s .contents) ≡ o → treeOfSpan (s .table) (s .contents) ≡ none
+    go : (o : Option SpanTree) → climb (s .table) (s .contents) ≡ o → climb (s .table) (s .contents) ≡ none
     go none e = e
-    go (some t) e = absurd (h t (treeOfSpan-sound (s .table) (s .contents) t e))
+    go (some t) e = absurd (h t (climb-sound (s .table) (s .contents) t e))
 
 -- The first span without a tree, by the list of spans, and its place.
 pub record FirstListed (text : Bytes) (ps : List Placed) (p : ℕ) : Type 0 where
@@ -185,7 +187,7 @@ refusal-at text ps h o e =
       among = span-among (spansOf ps) (f .before) (f .after) (f .span) (f .cut);
       treeless =
           λ s i.
-          let w = treeOfSpan-complete (f .span .table) k (f .span .contents) s i in
+          let w = climb-complete (f .span .table) (conditions-unambiguous (f .span .table) k) (f .span .contents) s i in
           clashing w (f .without);
       first = λ s m n. rw q (first-by-start (suc (length ps)) startTable (tokensOf ps) (h .nested) o e s m (not-found s n));
       offset = ap (spanOffset text ps) (sym q);

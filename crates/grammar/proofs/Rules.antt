@@ -25,7 +25,7 @@ use Rattle.grammar.proofs.SpanOrder.{opener-within}
 use Rattle.grammar.proofs.TokenFaults.{token-at}
 use Rattle.grammar.proofs.SpansRelation.{span-listed}
 use Rattle.grammar.proofs.ConditionsTest.{conditions-start}
-use Rattle.grammar.proofs.SpanSearch.{treeOfSpan-sound}
+use Rattle.grammar.proofs.Climb.{climb-sound}
 use Rattle.grammar.proofs.TextTree.{treeOf-complete}
 use Rattle.grammar.proofs.Spans.{HasTree, spans-have}
 use Rattle.grammar.proofs.Readings.{text-checked, reading-tree, tree-read, FirstListed, treeless-refused, refused-treeless}
@@ -121,7 +121,7 @@ span-treeless text ps h s m never t i =
     let e = treeOf-complete startTable conditions-start (tokensOf ps) t (text-checked text ps h t i) in
     let have = spans-have (suc (length ps)) (suc (length (tokensOf ps))) startTable none 0 (tokensOf ps) t e in
     let (u, q) = all-member HasTree (listed text ps h s .0 m) have in
-    never u (treeOfSpan-sound (s .table) (s .contents) u q)
+    never u (climb-sound (s .table) (s .contents) u q)
 
 -- 11 exactly where a text past checks 1 to 10 has a span without a tree, at the first one.
 pub eleven-exactly : (text : Bytes) (p : ℕ) → (readText text ≡ refused 11 p) ↔ ((ts : List Token) × Past text ts × FirstWithout text ts p)

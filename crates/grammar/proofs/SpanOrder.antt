@@ -1,7 +1,7 @@
 -- The spans of a text stand in the order of their starts, so the first one without a tree is the first by its start.
 -- The items of a span stand one behind the other and together are its tokens: of nested tokens nothing is lost. So the spans inside
 -- an item start within that item, and those of a later item start later.
-use mathlib.Core.Path.{_≡_, refl}
+use mathlib.Core.Path.{_≡_, refl, ap, _∙_}
 use mathlib.Core.List.{List, [], _∷_, _++_, List·Memᴰ, List·Memᴰ·head, List·Memᴰ·tail}
 use mathlib.Core.Option.{Option, none, some}
 use Prim.Native.Nat.{ℕ, zero, suc, _+_, _≤_, _<_}
@@ -14,8 +14,9 @@ use Rattle.grammar.specs.Operator.{Table}
 use Rattle.grammar.specs.Nesting.{nesting}
 use Rattle.grammar.specs.Span.{Item, single, pair, scope, itemTokens, items, allItemTokens}
 use Rattle.grammar.specs.SpanTree.{SpanTree}
-use Rattle.grammar.specs.Search.{treeOfSpan}
-use Rattle.grammar.specs.Blocks.{bodyTable, itemSpans, allItemSpans, spans, firstWithout}
+use Rattle.grammar.specs.Climb.{climb}
+use Rattle.grammar.specs.Blocks.{bodyTable, itemSpans, allItemSpans, spans, firstWithout, treelessOpener}
+use Rattle.grammar.proofs.Logic.{impossible}
 use Rattle.grammar.proofs.ItemsNested.{ItemNested, AllNested, items-tokens, items-nested}
 
 -- The starts ascend: the first is `low` or more, each further one is higher than the one before it, and all are below `high`.
@@ -93,23 +94,23 @@ pub opener-within : (k : ℕ) (T : Table) (ts : List Token) → nesting [] 0 ts 
 opener-within k T ts n s m = omega (arith, ascending-below 0 (suc (0 + length ts)) m (spans-ordered k T none ts 0 n))
 
 -- The first span without a tree, by the tree of the first span.
-first-without-here : (x : Span) (ss : List Span) (o : Option ℕ) → treeOfSpan (x .table) (x .contents) ≡ none → firstWithout (x ∷ ss) ≡ some o → o ≡ x .opener
+first-without-here : (x : Span) (ss : List Span) (o : Option ℕ) → climb (x .table) (x .contents) ≡ none → firstWithout (x ∷ ss) ≡ some o → o ≡ x .opener
 unfolding firstWithout
 first-without-here x ss o t e = let f : some (x .opener) ≡ some o = rw (t, firstWithout) at e in cc
 
-first-without-later : (x : Span) (ss : List Span) (o : Option ℕ) (t : SpanTree) → treeOfSpan (x .table) (x .contents) ≡ some t
+first-without-later : (x : Span) (ss : List Span) (o : Option ℕ) (t : SpanTree) → climb (x .table) (x .contents) ≡ some t
     → firstWithout (x ∷ ss) ≡ some o → firstWithout ss ≡ some o
 unfolding firstWithout
 first-without-later x ss o t h e = rw (h, firstWithout) at e
 
 -- No span without a tree starts before the first one of an ascending list.
-first-ascending : (low high : ℕ) {s : Span} {ss : List Span} → List·Memᴰ s ss → Ascending low high ss → treeOfSpan (s .table) (s .contents) ≡ none
+first-ascending : (low high : ℕ) {s : Span} {ss : List Span} → List·Memᴰ s ss → Ascending low high ss → climb (s .table) (s .contents) ≡ none
     → (o : Option ℕ) → firstWithout ss ≡ some o → startOf o ≤ startOf (s .opener)
 first-ascending low high (List·Memᴰ·head {x = x} {xs = xs} e) a t o f = rw (first-without-here x xs o (rw e at t) f, e) (omega arith)
 first-ascending low high {s} (List·Memᴰ·tail {x = x} {xs = xs} m) a t o f =
-    split (first-ascending (suc (startOf (x .opener))) high m (a .1) t o) (treeOfSpan (x .table) (x .contents)) refl
+    split (first-ascending (suc (startOf (x .opener))) high m (a .1) t o) (climb (x .table) (x .contents)) refl
   where
-    split : (firstWithout xs ≡ some o → startOf o ≤ startOf (s .opener)) → (r : Option SpanTree) → treeOfSpan (x .table) (x .contents) ≡ r
+    split : (firstWithout xs ≡ some o → startOf o ≤ startOf (s .opener)) → (r : Option SpanTree) → climb (x .table) (x .contents) ≡ r
         → startOf o ≤ startOf (s .opener)
     split later none h =
         let l = ascending-member (suc (startOf (x .opener))) high m (a .1) in
@@ -118,5 +119,26 @@ first-ascending low high {s} (List·Memᴰ·tail {x = x} {xs = xs} m) a t o f =
 
 -- "11 for the first span by its start": the span that the search names first starts no later than any other span without a tree.
 pub first-by-start : (k : ℕ) (T : Table) (ts : List Token) → nesting [] 0 ts ≡ passed tt → (o : Option ℕ) → firstWithout (spans k T none 0 ts) ≡ some o
-    → (s : Span) → List·Memᴰ s (spans k T none 0 ts) → treeOfSpan (s .table) (s .contents) ≡ none → startOf o ≤ startOf (s .opener)
+    → (s : Span) → List·Memᴰ s (spans k T none 0 ts) → climb (s .table) (s .contents) ≡ none → startOf o ≤ startOf (s .opener)
 first-by-start k T ts n o f s m t = first-ascending 0 (suc (0 + length ts)) m (spans-ordered k T none ts 0 n) t o f
+
+-- Its opener is one of the tokens.
+first-below : (low high : ℕ) (ss : List Span) → Ascending low high ss → (o : Option ℕ) → firstWithout ss ≡ some o → startOf o < high
+unfolding firstWithout
+first-below low high [] a o f = impossible cc
+first-below low high (x ∷ ss) a o f = go (climb (x .table) (x .contents)) refl (first-below (suc (startOf (x .opener))) high ss (a .1) o)
+  where
+    go : (r : Option SpanTree) → climb (x .table) (x .contents) ≡ r → (firstWithout ss ≡ some o → startOf o < high) → startOf o < high
+    go none h later = rw (first-without-here x ss o h f) (omega (arith, ascending-bound (suc (startOf (x .opener))) high ss (a .1)))
+    go (some r) h later = later (first-without-later x ss o r h f)
+
+pub treeless-within : (k : ℕ) (T : Table) (ts : List Token) → nesting [] 0 ts ≡ passed tt → (i : ℕ) → treelessOpener (spans k T none 0 ts) ≡ some i
+    → i < length ts
+unfolding treelessOpener
+treeless-within k T ts n i e = go (firstWithout (spans k T none 0 ts)) refl
+  where
+    go : (o : Option (Option ℕ)) → firstWithout (spans k T none 0 ts) ≡ o → i < length ts
+    go none f = let z : none ≡ some i = rw (f, treelessOpener) at e in impossible cc
+    go (some o) f =
+        let z : o ≡ some i = rw (f, treelessOpener) at e in
+        omega (arith, first-below 0 (suc (0 + length ts)) (spans k T none 0 ts) (spans-ordered k T none ts 0 n) (some i) (f ∙ ap some z))

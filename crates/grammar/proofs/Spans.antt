@@ -13,7 +13,7 @@ use Rattle.grammar.specs.Declaration.{declareAll, declarations}
 use Rattle.grammar.specs.Span.{Item, single, pair, scope, items, itemTokens}
 use Rattle.grammar.specs.SpanTree.{SpanTree, missing, operand, apply, yield}
 use Rattle.grammar.specs.Tree.{Tree, nothing, leaf, bracket, block, node}
-use Rattle.grammar.specs.Search.{treeOfSpan}
+use Rattle.grammar.specs.Climb.{climb}
 use Rattle.grammar.specs.Blocks.{
   bodyTable,
   checkBlocks,
@@ -31,7 +31,7 @@ use Rattle.grammar.specs.Blocks.{
 }
 use Rattle.grammar.specs.Bytes.{All}
 use Rattle.grammar.proofs.Lists.{all-left, all-right, all-append}
-use Rattle.grammar.proofs.SpanSearch.{treeOfSpan-sound}
+use Rattle.grammar.proofs.Climb.{climb-sound}
 use Rattle.grammar.proofs.Declarations.{enter-sound}
 use Rattle.grammar.proofs.ConditionsTest.{conditions-sound}
 use Rattle.grammar.proofs.ItemLists.{CheckedBy}
@@ -41,11 +41,11 @@ use Rattle.grammar.proofs.Logic.{impossible}
 
 -- A span has a tree.
 abbrev pub HasTree : Span → Type 0
-HasTree s = (t : SpanTree) × (treeOfSpan (s .table) (s .contents) ≡ some t)
+HasTree s = (t : SpanTree) × (climb (s .table) (s .contents) ≡ some t)
 
 without-none :
     (s : Span) (ss : List Span) → (firstWithout ss ≡ none → All HasTree ss)
-    → (o : Option SpanTree) → treeOfSpan (s .table) (s .contents) ≡ o → firstWithout (s ∷ ss) ≡ none → All HasTree (s ∷ ss)
+    → (o : Option SpanTree) → climb (s .table) (s .contents) ≡ o → firstWithout (s ∷ ss) ≡ none → All HasTree (s ∷ ss)
 unfolding firstWithout
 without-none s ss h none q e = let f = rw (q, firstWithout) at e in impossible cc
 without-none s ss h (some t) q e = ((t, q), h (rw (q, firstWithout) at e))
@@ -53,7 +53,7 @@ without-none s ss h (some t) q e = ((t, q), h (rw (q, firstWithout) at e))
 -- No span is without a tree exactly where every span has one.
 pub firstWithout-none : (ss : List Span) → firstWithout ss ≡ none → All HasTree ss
 firstWithout-none [] e = tt
-firstWithout-none (s ∷ ss) e = without-none s ss (firstWithout-none ss) (treeOfSpan (s .table) (s .contents)) refl e
+firstWithout-none (s ∷ ss) e = without-none s ss (firstWithout-none ss) (climb (s .table) (s .contents)) refl e
 
 pub firstWithout-all : (ss : List Span) → All HasTree ss → firstWithout ss ≡ none
 unfolding firstWithout
@@ -115,12 +115,12 @@ module _ (inner : Table → List Token → Option Tree) (below : Table → Optio
 
   spans-of-found :
       (T : Table) (o : Option ℕ) (i : ℕ) (ts : List Token) (t : Tree)
-      → (f : Option SpanTree) → treeOfSpan T (items ts) ≡ f → hangFound inner T f ≡ some t
+      → (f : Option SpanTree) → climb T (items ts) ≡ f → hangFound inner T f ≡ some t
       → All HasTree (record { opener = o; table = T; contents = items ts } ∷ allItemSpans below T i (items ts))
   unfolding hangFound
   spans-of-found T o i ts t none q e = impossible cc
   spans-of-found T o i ts t (some s) q e =
-      let y = treeOfSpan-sound T (items ts) s q .yields in
+      let y = climb-sound T (items ts) s q .yields in
       ((s, q), allItemSpans-have T i (items ts) (rw y at (hang-inside inner T s t e)))
 
 pub spans-have :
@@ -129,7 +129,7 @@ unfolding spans treeIn
 spans-have zero k T o i ts t e = tt
 spans-have (suc j) zero T o i ts t e = impossible cc
 spans-have (suc j) (suc k) T o i ts t e =
-    spans-of-found (treeIn k) (spans j) (spans-have j k) T o i ts t (treeOfSpan T (items ts)) refl e
+    spans-of-found (treeIn k) (spans j) (spans-have j k) T o i ts t (climb T (items ts)) refl e
 
 -- If each span of a nested text has a tree, so has the text.
 module _ (inner : Table → List Token → Option Tree) (below : Table → Option ℕ → ℕ → List Token → List Span) (k : ℕ)
@@ -159,8 +159,8 @@ unfolding spans treeIn hangFound
 spans-hang zero T o i ts n b h = absurd (omega arith)
 spans-hang (suc k) T o i ts n b h =
     let s = h .0 .0 in
-    let q : treeOfSpan T (items ts) ≡ some s = h .0 .1 in
-    let y = treeOfSpan-sound T (items ts) s q .yields in
+    let q : climb T (items ts) ≡ some s = h .0 .1 in
+    let y = climb-sound T (items ts) s q .yields in
     let g = allItemSpans-hang (treeIn k) (spans k) k (spans-hang k) T i (items ts) (inside-items k ts n (omega arith)) (h .1) in
     let f = hang-some (treeIn k) T s (rw y g) in
     (f .0, ap (hangFound (treeIn k) T) q ∙ f .1)
@@ -173,11 +173,11 @@ pub record Treeless (ss : List Span) (o : Option ℕ) : Type 0 where
   pub cut : ss ≡ before ++ span ∷ after
   pub opened : span .opener ≡ o
   pub earlier : All HasTree before
-  pub without : treeOfSpan (span .table) (span .contents) ≡ none
+  pub without : climb (span .table) (span .contents) ≡ none
 
 without-some :
     (s : Span) (ss : List Span) (o : Option ℕ) → (firstWithout ss ≡ some o → Treeless ss o)
-    → (f : Option SpanTree) → treeOfSpan (s .table) (s .contents) ≡ f → firstWithout (s ∷ ss) ≡ some o → Treeless (s ∷ ss) o
+    → (f : Option SpanTree) → climb (s .table) (s .contents) ≡ f → firstWithout (s ∷ ss) ≡ some o → Treeless (s ∷ ss) o
 unfolding firstWithout
 without-some s ss o h none q e =
     let f : some (s .opener) ≡ some o = rw (q, firstWithout) at e in
@@ -197,14 +197,15 @@ without-some s ss o h (some t) q e =
 pub firstWithout-some : (ss : List Span) (o : Option ℕ) → firstWithout ss ≡ some o → Treeless ss o
 unfolding firstWithout
 firstWithout-some [] o e = impossible cc
-firstWithout-some (s ∷ ss) o e = without-some s ss o (firstWithout-some ss o) (treeOfSpan (s .table) (s .contents)) refl e
+firstWithout-some (s ∷ ss) o e = without-some s ss o (firstWithout-some ss o) (climb (s .table) (s .contents)) refl e
 
 -- The operators of every span of a text past checks 6 to 10 meet the four conditions.
 abbrev pub LawfulSpan : Span → Type 0
 LawfulSpan s = Conditions (s .table)
 
 module _ (below : Table → Option ℕ → ℕ → List Token → List Span) (j : ℕ)
-    (lawful : (T : Table) (o : Option ℕ) (i n : ℕ) (ts : List Token) → Conditions T → Nested ts → length ts < j → checkBlocks j T n ts ≡ passed tt → All LawfulSpan (below T o i ts)) where
+    (lawful : (T : Table) (o : Option ℕ) (i n : ℕ) (ts : List Token) → Conditions T → Nested ts → length ts < j
+    → checkBlocks j T n ts ≡ passed tt → All LawfulSpan (below T o i ts)) where
   itemSpans-lawful : (T : Table) (i : ℕ) (x : Item) → Conditions T → Inside j x × CheckedBy (checkBlocks j) T x → All LawfulSpan (itemSpans below T i x)
   unfolding itemSpans bodyTable
   itemSpans-lawful T i (single t) c k = tt

@@ -13,11 +13,11 @@ use Rattle.grammar.specs.Declaration.{declareAll, declarations, allToken
 use Rattle.grammar.specs.Span.{Item, single, pair, scope, items, itemTokens, allItemTokens}
 use Rattle.grammar.specs.SpanTree.{SpanTree, missing, operand, apply, yield}
 use Rattle.grammar.specs.Tree.{Tree, nothing, leaf, bracket, block, node, flat, spanTree}
-use Rattle.grammar.specs.Search.{treeOfSpan}
+use Rattle.grammar.specs.Climb.{climb}
 use Rattle.grammar.specs.Blocks.{bodyTable, checkBlocks, hangItem, hang, hangFound, treeIn}
 use Rattle.grammar.proofs.CheckedTrees.{InnerChecked, IsCheckedTree}
 use Rattle.grammar.proofs.Hung.{underBracket-some, underBlock-some, underOperator-some}
-use Rattle.grammar.proofs.SpanSearch.{treeOfSpan-sound}
+use Rattle.grammar.proofs.Climb.{climb-sound}
 use Rattle.grammar.proofs.ItemsNested.{Passes, ItemNested, append-tokens, items-tokens, items-nested}
 use Rattle.grammar.proofs.Declarations.{enter-sound}
 use Rattle.grammar.proofs.ConditionsTest.{conditions-sound}
@@ -135,11 +135,11 @@ module _ (inner : Table → List Token → Option Tree) (j : ℕ)
   found-sound :
       (T : Table) (i : ℕ) (ts : List Token) (t : Tree)
       → Nested ts → length ts < suc j → checkBlocks (suc j) T i ts ≡ passed tt
-      → (o : Option SpanTree) → treeOfSpan T (items ts) ≡ o → hangFound inner T o ≡ some t → IsCheckedTree T ts t
+      → (o : Option SpanTree) → climb T (items ts) ≡ o → hangFound inner T o ≡ some t → IsCheckedTree T ts t
   unfolding hangFound
   found-sound T i ts t n b c none q e = impossible cc
   found-sound T i ts t n b c (some s) q e =
-      let g = treeOfSpan-sound T (items ts) s q in
+      let g = climb-sound T (items ts) s q in
       let y = g .yields in
       let h = hang-sound T s t (rw y (known-items j T i ts n (omega arith) c)) e in
       record {
@@ -155,4 +155,4 @@ pub treeIn-sound :
 unfolding treeIn
 treeIn-sound zero j T i ts t n b c e = impossible cc
 treeIn-sound (suc k) zero T i ts t n b c e = absurd (omega arith)
-treeIn-sound (suc k) (suc j) T i ts t n b c e = found-sound (treeIn k) j (treeIn-sound k j) T i ts t n b c (treeOfSpan T (items ts)) refl e
+treeIn-sound (suc k) (suc j) T i ts t n b c e = found-sound (treeIn k) j (treeIn-sound k j) T i ts t n b c (climb T (items ts)) refl e

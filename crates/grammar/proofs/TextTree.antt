@@ -12,10 +12,11 @@ use Rattle.grammar.specs.Operator.{Table, Conditions}
 use Rattle.grammar.specs.Declaration.{Declaration, declareAll, declarations, allTokens}
 use Rattle.grammar.specs.Span.{items}
 use Rattle.grammar.specs.Tree.{Tree, nothing, leaf, bracket, block, node, flat, spanTree, SpanOk}
-use Rattle.grammar.specs.Search.{treeOfSpan}
+use Rattle.grammar.specs.Climb.{climb}
 use Rattle.grammar.specs.Blocks.{bodyTable, underBracket, underBlock, underOperator, hangItem, hang, hangFound, treeIn, treeOf}
 use Rattle.grammar.proofs.CheckedTrees.{InnerChecked, IsCheckedTree}
-use Rattle.grammar.proofs.SpanSearch.{treeOfSpan-complete}
+use Rattle.grammar.proofs.Unambiguous.{conditions-unambiguous}
+use Rattle.grammar.proofs.ClimbComplete.{climb-complete}
 use Rattle.grammar.proofs.Items.{items-flat}
 use Rattle.grammar.proofs.Declarations.{declarations-of}
 
@@ -61,8 +62,8 @@ pub treeIn-complete :
 unfolding treeIn hangFound
 treeIn-complete zero T t c s h n = absurd (omega arith)
 treeIn-complete (suc k) T t c s h n =
-    let e : treeOfSpan T (items (flat t)) ≡ some (spanTree t) =
-    treeOfSpan-complete T c (items (flat t)) (spanTree t)
+    let e : climb T (items (flat t)) ≡ some (spanTree t) =
+    climb-complete T (conditions-unambiguous T c) (items (flat t)) (spanTree t)
     (record { yields = sym (items-flat t); admitted = s .0; there = s .1 }) in
     ap (hangFound (treeIn k) T) e ∙ hang-complete (treeIn k) k (treeIn-complete k) T c t h (omega arith)
 

@@ -12,7 +12,7 @@ use Rattle.grammar.specs.Span.{Item, single, pair, scope, itemTokens, it
 use Rattle.grammar.specs.Spans.{Span}
 use Rattle.grammar.specs.SpanTree.{SpanTree, missing, operand, apply}
 use Rattle.grammar.specs.Tree.{Tree, nothing, leaf, bracket, block, node}
-use Rattle.grammar.specs.Search.{treeOfSpan}
+use Rattle.grammar.specs.Climb.{climb}
 
 -- The operators in force in the body of a block with the declarations `ds`.
 unfoldable pub bodyTable : Table → List Token → Table
@@ -54,7 +54,7 @@ spans (suc k) T o i ts =
 -- "11 for the first span by its start": the opener of the first span without a tree, if there is one.
 unfoldable pub firstWithout : List Span → Option (Option ℕ)
 firstWithout [] = none
-firstWithout (s ∷ ss) = elim (treeOfSpan (s .table) (s .contents)) [ none ↦ some (s .opener) | some t ↦ firstWithout ss ]
+firstWithout (s ∷ ss) = elim (climb (s .table) (s .contents)) [ none ↦ some (s .opener) | some t ↦ firstWithout ss ]
 
 -- Its place: "0, the `(`, or the `in`" (none for the whole text).
 unfoldable pub treelessOpener : List Span → Option ℕ
@@ -91,7 +91,7 @@ module _ (inner : Table → List Token → Option Tree) where
 
 unfoldable pub treeIn : ℕ → Table → List Token → Option Tree
 treeIn zero T ts = none
-treeIn (suc k) T ts = hangFound (treeIn k) T (treeOfSpan T (items ts))
+treeIn (suc k) T ts = hangFound (treeIn k) T (climb T (items ts))
 
 -- The tree of a list of tokens under the operators `T`, if there is one.
 unfoldable pub treeOf : Table → List Token → Option Tree

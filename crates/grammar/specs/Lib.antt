@@ -12,7 +12,8 @@ pub mod Spans
 pub mod Fault
 pub mod SpanTree
 pub mod Tree
-pub mod Search
+pub mod Climb
+pub mod Widest
 pub mod Blocks
 pub mod Nodes
 pub mod Abstract

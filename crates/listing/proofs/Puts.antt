@@ -6,7 +6,7 @@ use native.Mathlib.Omega.{arith}
 use lib.ListN.{length, take, replicate}
 use lib.Seq.{length-sets, length-take-le}
 use Rattle.grammar.specs.Bytes.{Bytes}
-use Rattle.pieces.specs.Puts.{Put}
+use Rattle.byte_strings.specs.Puts.{Put}
 
 module _ {line : List ℕ} {r : ℕ} {part : Bytes} where
   pub put-within : Put (replicate 128 0) 0 part line r → r ≤ 128 → r ≤ length line

@@ -5,7 +5,7 @@ ghost use mathlib.Core.List.{[], _∷_};
 ghost use Prim.Native.Nat.{_+_, _*_, _≤_, _<_};
 ghost use lib.ListN.{length, drop, getD};
 ghost use Rattle.grammar.specs.Listing.{field, kindNames, nodeLines};
-ghost use Rattle.pieces.specs.Puts.{Put};
+ghost use Rattle.byte_strings.specs.Puts.{Put};
 ghost use Rattle.listing.specs.Lines.{spelled, answerText};
 
 // Puts `part` behind the first `n` bytes of a line, and answers how many bytes the line then has.
@@ -13,7 +13,7 @@ fn put(line: &mut [u8; 128], n: usize, part: &[u8]) -> usize
     requires { ⌜ n + length (now part) ≤ 128 ⌝ }
     ensures { λ r. ⌜ Put (now (line .entry)) n (now (part .entry)) (now (line .exit)) r ⌝ }
 {
-    pieces::put(line, n, part)
+    byte_strings::put(line, n, part)
 }
 
 // Puts a number, of at most 20 digits, into a line.

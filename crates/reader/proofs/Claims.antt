@@ -15,13 +15,13 @@ use Rattle.grammar.specs.Operator.{Table, Conditions}
 use Rattle.grammar.specs.Declaration.{startTable, value}
 use Rattle.grammar.specs.SpanTree.{SpanTree, Admitted, root, rootPrecedence, yield}
 use Rattle.grammar.specs.Tree.{Tree, IsTree}
-use Rattle.grammar.specs.Search.{widest}
+use Rattle.grammar.specs.Widest.{widest}
 use Rattle.grammar.specs.Abstract.{Agree}
 use Rattle.grammar.specs.Canonical.{strip}
 use Rattle.grammar.specs.Fault.{longestText, Fault, Past}
 use Rattle.grammar.specs.Claim.{BlocksLawful, FirstWithout, TreeOf, canonicalTree, canonicalBytes, Faithful}
 use Rattle.grammar.proofs.Numbers as Numbers
-use Rattle.grammar.proofs.SpanRoot.{root-widest}
+use Rattle.grammar.proofs.WidestRoot.{root-widest}
 use Rattle.grammar.proofs.Faults as Faults
 use Rattle.grammar.proofs.Rules as Rules
 use Rattle.reader.specs.declared.Answer.{Answer}

@@ -1,5 +1,6 @@
 pub mod Reading
 pub mod Writing
+pub mod Serving
 pub mod Fits
 pub mod NodeCharacters
 pub mod Calls

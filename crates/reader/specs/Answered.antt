@@ -1,5 +1,6 @@
 -- What the services answer and leave in the lent buffer, by document 01's answer and the definitions of the services.
 use mathlib.Core.Path.{_≡_}
+use mathlib.Core.Bool.{Bool, true, false}
 use mathlib.Core.List.{List}
 use Prim.Native.Nat.{ℕ, _+_, _*_}
 use lib.ListN.{take, drop, getD}
@@ -26,6 +27,11 @@ Reads text table table′ a = resultOf a table′ ≡ G.read text table
 -- Canonicalizing: the text, the buffer before and after, the answer.
 abbrev pub Canonicalizes : Bytes → List ℕ → List ℕ → Answer → Type 0
 Canonicalizes text buffer buffer′ a = resultOf a buffer′ ≡ G.canonicalize text buffer
+
+-- One of the two, and the other's buffer is as it was.
+pub record Serves (canonical : Bool) (text : Bytes) (table table′ buffer buffer′ : List ℕ) (a : Answer) : Type 0 where
+  pub reading : canonical ≡ false → Reads text table table′ a × (buffer′ ≡ buffer)
+  pub writing : canonical ≡ true → Canonicalizes text buffer buffer′ a × (table′ ≡ table)
 
 -- "Offset and length give the name's characters, the number's digits or the operator's mark": the part of the text that node number
 -- `i` gives. A node that is not there gives none of it.

@@ -1,2 +1,3 @@
 pub mod Answered
 pub mod Demands
+pub mod Found

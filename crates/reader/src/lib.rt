@@ -1,8 +1,28 @@
 // The two services: any bytes in; a node table, or canonical text, or a numbered refusal out.
-use scan::tokens;
-use tree::build;
+use canonical_text::pieces;
+use checks::Checked;
+use nodes::build;
+use nodes::node;
 ghost use mathlib.Core.Path.{_≡_};
-ghost use Rattle.reader.specs.Answered.{refusedWith, Reads, Canonicalizes, nodeCharacters};
+ghost use Rattle.checks.specs.Checking.{Checkable};
+ghost use mathlib.Core.List.{List};
+ghost use Prim.Native.Nat.{ℕ};
+ghost use Rattle.reader.specs.Answered.{refusedWith, Reads, Canonicalizes, Serves, nodeCharacters};
+ghost use Rattle.reader.specs.Found.{Found};
+
+pub const MAX_BYTES: usize = 16384;
+
+// A text of at most so many bytes has no more tokens, and shorter rows.
+pub const TINY: usize = 16;
+
+pub const SHORT: usize = 128;
+
+// Refusals 1, 12 and 13.
+pub const TEXT_TOO_LONG: u8 = 1;
+
+pub const TABLE_TOO_SHORT: u8 = 12;
+
+pub const BUFFER_TOO_SHORT: u8 = 13;
 
 // Document 01's answer: number 0 with the count of what was written, or the number and the place of a refusal.
 #[repr(C)]
@@ -23,64 +43,148 @@ fn refused(number: u8, offset: usize) -> Answer
     }
 }
 
+// Writes the `k` nodes of the tokens, whose root is `at`, if the table has room for them.
+fn write_nodes(
+    tokens: &[u16],
+    roots: &[u16],
+    count: usize,
+    k: usize,
+    at: usize,
+    nodes: &mut [u32],
+) -> Answer
+    requires { ⌜ ((text R : List ℕ) × Found text (now tokens) R (now roots) count k at) ⌝ }
+    ensures { λ r. ⌜ ((text R : List ℕ) → Found text (now (tokens .entry)) R (now (roots .entry)) count k at
+        → Reads text (now (nodes .entry)) (now (nodes .exit)) r) ⌝ }
+{
+    if nodes.len() < k * node::WORDS {
+        return refused(TABLE_TOO_SHORT, 0);
+    }
+    let written = build::build(tokens, roots, 0, at, count, nodes, 0);
+    Answer {
+        number: 0,
+        offset: 0,
+        count: written,
+    }
+}
+
+// Writes the canonical text of the tokens, if it fits.
+fn write_text(
+    text: &[u8],
+    tokens: &mut [u16],
+    roles: &[u16],
+    roots: &[u16],
+    count: usize,
+    buffer: &mut [u8],
+) -> Answer
+    requires { ⌜ ((k at : ℕ) × Found (now text) (now tokens) (now roles) (now roots) count k at) ⌝ }
+    ensures { λ r. ⌜ Canonicalizes (now (text .entry)) (now (buffer .entry)) (now (buffer .exit)) r ⌝ }
+{
+    let n = pieces::prepare(text, tokens, roles, roots, count);
+    if buffer.len() < n {
+        return refused(BUFFER_TOO_SHORT, 0);
+    }
+    if MAX_BYTES < n {
+        return refused(BUFFER_TOO_SHORT, 0);
+    }
+    pieces::write(text, tokens, count, buffer);
+    Answer {
+        number: 0,
+        offset: 0,
+        count: n,
+    }
+}
+
+// Checks 2 to 11, and then one of the two: canonical text into the buffer, or nodes into the table.
+fn serve_in(
+    text: &[u8],
+    tokens: &mut [u16],
+    roles: &mut [u16],
+    roots: &mut [u16],
+    canonical: bool,
+    nodes: &mut [u32],
+    buffer: &mut [u8],
+) -> Answer
+    requires { ⌜ Checkable (now text) (now tokens) (now roles) (now roots) ⌝ }
+    ensures { λ r. ⌜ Serves canonical (now (text .entry)) (now (nodes .entry)) (now (nodes .exit)) (now (buffer .entry)) (now (buffer .exit)) r ⌝ }
+{
+    match checks::check(text, tokens, roles, roots) {
+        Checked::Refused { number, offset } => refused(number, offset),
+        Checked::Passed {
+            tokens: count,
+            nodes: k,
+            root,
+        } => {
+            if canonical {
+                return write_text(text, tokens, roles, roots, count, buffer);
+            }
+            write_nodes(tokens, roots, count, k, root, nodes)
+        }
+    }
+}
+
+// Check 1, and rows for the tokens: no text has more tokens than bytes.
+fn serve(text: &[u8], canonical: bool, nodes: &mut [u32], buffer: &mut [u8]) -> Answer
+    ensures { λ r. ⌜ Serves canonical (now (text .entry)) (now (nodes .entry)) (now (nodes .exit)) (now (buffer .entry)) (now (buffer .exit)) r ⌝ }
+{
+    if MAX_BYTES < text.len() {
+        return refused(TEXT_TOO_LONG, MAX_BYTES);
+    }
+    if text.len() <= TINY {
+        let mut tokens = [0u16; 64];
+        let mut roles = [0u16; 64];
+        let mut roots = [0u16; 32];
+        return serve_in(
+            text,
+            &mut tokens,
+            &mut roles,
+            &mut roots,
+            canonical,
+            nodes,
+            buffer,
+        );
+    }
+    if text.len() <= SHORT {
+        let mut tokens = [0u16; 512];
+        let mut roles = [0u16; 512];
+        let mut roots = [0u16; 256];
+        return serve_in(
+            text,
+            &mut tokens,
+            &mut roles,
+            &mut roots,
+            canonical,
+            nodes,
+            buffer,
+        );
+    }
+    let mut tokens = [0u16; 4096];
+    let mut roles = [0u16; 4096];
+    let mut roots = [0u16; 2048];
+    serve_in(
+        text,
+        &mut tokens,
+        &mut roles,
+        &mut roots,
+        canonical,
+        nodes,
+        buffer,
+    )
+}
+
 // Reads a text into a lent node table, five words to a node. A refusal changes no word.
 pub fn read(text: &[u8], nodes: &mut [u32]) -> Answer
     ensures { λ r. ⌜ Reads (now (text .entry)) (now (nodes .entry)) (now (nodes .exit)) r ⌝ }
 {
-    let mut kinds = [0u8; 1024];
-    let mut starts = [0u16; 1024];
-    let mut sizes = [0u8; 1024];
-    let mut closes = [0u16; 1024];
-    let mut prefixes = [0u16; 1024];
-    let mut infixes = [0u16; 1024];
-    let mut postfixes = [0u16; 1024];
-    let mut listed = [0u8; 1024];
-    let mut roots = [0u32; 1024];
-    let a = analysis::analyse(
-        text,
-        &mut kinds,
-        &mut starts,
-        &mut sizes,
-        &mut closes,
-        &mut prefixes,
-        &mut infixes,
-        &mut postfixes,
-        &mut listed,
-        &mut roots,
-    );
-    if a.number != 0 {
-        return refused(a.number, a.offset);
-    }
-    if nodes.len() < a.nodes * 5 {
-        return refused(12, 0);
-    }
-    let mut items = [0u16; 1024];
-    let mut p = [0u16; 1024];
-    let mut f = [0u16; 1024];
-    let mut q = [0u16; 1024];
-    let count = build::build_span(
-        &kinds,
-        &starts,
-        &sizes,
-        &closes,
-        &prefixes,
-        &infixes,
-        &postfixes,
-        &mut items,
-        &mut p,
-        &mut f,
-        &mut q,
-        0,
-        a.tokens,
-        0,
-        nodes,
-        0,
-    );
-    Answer {
-        number: 0,
-        offset: 0,
-        count,
-    }
+    let mut buffer = [0u8; 1];
+    serve(text, false, nodes, &mut buffer)
+}
+
+// Writes the canonical text of a text over the front of a lent buffer. A refusal changes no byte.
+pub fn canonicalize(text: &[u8], buffer: &mut [u8]) -> Answer
+    ensures { λ r. ⌜ Canonicalizes (now (text .entry)) (now (buffer .entry)) (now (buffer .exit)) r ⌝ }
+{
+    let mut nodes = [0u32; 1];
+    serve(text, true, &mut nodes, buffer)
 }
 
 // The part of the text that node number `i` gives: a name's characters without quotes, a number's digits, an operator.
@@ -88,66 +192,13 @@ pub fn characters<'a>(text: &'a [u8], nodes: &[u32], i: usize) -> &'a [u8]
     ensures { λ r. ⌜ now r ≡ nodeCharacters (now (text .entry)) (now (nodes .entry)) i ⌝ }
 {
     if nodes.len() <= i {
-        return tokens::cut(text, 0, 0);
+        return byte_strings::cut(text, 0, 0);
     }
-    let w = i * 5;
+    let w = i * node::WORDS;
     if nodes.len() <= w + 4 {
-        return tokens::cut(text, 0, 0);
+        return byte_strings::cut(text, 0, 0);
     }
     let at = nodes[w + 3] as usize;
     let n = nodes[w + 4] as usize;
-    tokens::cut(text, at, n)
-}
-
-// Writes the canonical text of a text over the front of a lent buffer. A refusal changes no byte.
-pub fn canonicalize(text: &[u8], buffer: &mut [u8]) -> Answer
-    ensures { λ r. ⌜ Canonicalizes (now (text .entry)) (now (buffer .entry)) (now (buffer .exit)) r ⌝ }
-{
-    let mut kinds = [0u8; 1024];
-    let mut starts = [0u16; 1024];
-    let mut sizes = [0u8; 1024];
-    let mut closes = [0u16; 1024];
-    let mut prefixes = [0u16; 1024];
-    let mut infixes = [0u16; 1024];
-    let mut postfixes = [0u16; 1024];
-    let mut listed = [0u8; 1024];
-    let mut roots = [0u32; 1024];
-    let a = analysis::analyse(
-        text,
-        &mut kinds,
-        &mut starts,
-        &mut sizes,
-        &mut closes,
-        &mut prefixes,
-        &mut infixes,
-        &mut postfixes,
-        &mut listed,
-        &mut roots,
-    );
-    if a.number != 0 {
-        return refused(a.number, a.offset);
-    }
-    brackets::leave_out(
-        &kinds,
-        &closes,
-        &prefixes,
-        &infixes,
-        &postfixes,
-        a.tokens,
-        &mut roots,
-        &mut sizes,
-    );
-    let n = pieces::total(text, &kinds, &listed, &starts, &sizes, a.tokens);
-    if buffer.len() < n {
-        return refused(13, 0);
-    }
-    if 16384 < n {
-        return refused(13, 0);
-    }
-    pieces::write(text, &kinds, &listed, &starts, &sizes, a.tokens, buffer);
-    Answer {
-        number: 0,
-        offset: 0,
-        count: n,
-    }
+    byte_strings::cut(text, at, n)
 }

@@ -1,7 +1,7 @@
 -- The answer's text and a line end stand in the line. Assumes nothing.
 use native.Mathlib.Omega.{arith}
 use borrow.Author.Needs.{needs}
-use Rattle.pieces.proofs.Puts.{put-then}
+use Rattle.byte_strings.proofs.Puts.{put-then}
 use Rattle.listing.proofs.Puts.{put-within, put-taken}
 use Rattle.listing.proofs.print_answer_line.Statement.{statement}
 use Rattle.listing.proofs.print_answer_line.Tie as tie

@@ -6,7 +6,7 @@ use borrow.Author.Needs.{needs}
 use Rattle.grammar.specs.Bytes.{Bytes, bytes}
 use Rattle.reader.specs.declared.Answer.{Answer}
 use Rattle.listing.specs.Lines.{spelled, answerText}
-use Rattle.pieces.proofs.Puts.{put-then, put-same}
+use Rattle.byte_strings.proofs.Puts.{put-then, put-same}
 use Rattle.listing.proofs.put_answer.Statement.{statement}
 use Rattle.listing.proofs.put_answer.Tie as tie
 

@@ -2,7 +2,7 @@
 use Prim.Native.Nat.{_<_, _^_}
 use native.Mathlib.Omega.{arith}
 use borrow.Author.Needs.{needs}
-use Rattle.pieces.proofs.Puts.{put-then, put-same}
+use Rattle.byte_strings.proofs.Puts.{put-then, put-same}
 use Rattle.listing.proofs.Digits.{spelled-field}
 use Rattle.listing.proofs.put_field.Statement.{statement}
 use Rattle.listing.proofs.put_field.Tie as tie

@@ -9,8 +9,8 @@ use borrow.Author.Needs.{needs}
 use lib.ListN.{length, getD, List·getD-eq-default}
 use Rattle.grammar.specs.Bytes.{Bytes, bytes}
 use Rattle.grammar.specs.Listing.{kindNames}
-use Rattle.pieces.specs.Puts.{Put}
-use Rattle.pieces.proofs.Puts.{put-then, put-same}
+use Rattle.byte_strings.specs.Puts.{Put}
+use Rattle.byte_strings.proofs.Puts.{put-then, put-same}
 use Rattle.listing.proofs.put_kind.Statement.{statement}
 use Rattle.listing.proofs.put_kind.Tie as tie
 

@@ -9,7 +9,7 @@ use lib.ListN.{drop, getD}
 use lib.Seq.{getD-drop}
 use Rattle.grammar.specs.Listing.{field, kindNames, nodeLines}
 use Rattle.listing.specs.Lines.{spelled}
-use Rattle.pieces.proofs.Puts.{put-then, put-same}
+use Rattle.byte_strings.proofs.Puts.{put-then, put-same}
 use Rattle.listing.proofs.Digits.{spelled-decimal}
 use Rattle.listing.proofs.put_node.Statement.{statement}
 use Rattle.listing.proofs.put_node.Tie as tie

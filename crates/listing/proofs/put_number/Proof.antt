@@ -4,7 +4,7 @@ use native.Mathlib.Omega.{arith}
 use borrow.Author.Needs.{needs}
 use lib.ListN.{length, take}
 use Rattle.listing.specs.Lines.{spelled}
-use Rattle.pieces.proofs.Puts.{put-same}
+use Rattle.byte_strings.proofs.Puts.{put-same}
 use Rattle.listing.proofs.Digits.{digits-spelled, length-spelled}
 use Rattle.listing.proofs.put_number.Statement.{statement}
 use Rattle.listing.proofs.put_number.Tie as tie

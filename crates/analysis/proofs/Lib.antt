@@ -1,3 +1,0 @@
-pub mod Agreement
-pub mod Stages
-pub mod Trees

@@ -1,0 +1,3 @@
+pub mod Suffixes
+pub mod Puts
+pub mod Blanks

@@ -1,1 +1,0 @@
-// Laws: the tokens that stay are those of the canonical tree. No code.

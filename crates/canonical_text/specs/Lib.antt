@@ -1,0 +1,3 @@
+pub mod Pieces
+pub mod Brackets
+pub mod Trimming

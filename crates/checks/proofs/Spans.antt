@@ -1,0 +1,146 @@
+-- Check 11: what the search of all spans answers is what reading answers, and of a text that is read the rows hold the tree.
+use mathlib.Core.Path.{_≡_, refl, sym, ap, subst, _∙_}
+use mathlib.Core.Bool.{Bool}
+use mathlib.Core.List.{List, []}
+use mathlib.Core.Option.{Option, none, some}
+use Prim.Native.Nat.{ℕ, suc, _≤_, _<_}
+use native.Mathlib.Omega.{arith}
+use lib.ListN.{length}
+use Rattle.grammar.specs.Bytes.{Bytes}
+use Rattle.grammar.specs.Outcome.{refused, passed, andThen, placed}
+use Rattle.grammar.specs.Scan.{Placed}
+use Rattle.grammar.specs.Declaration.{startTable}
+use Rattle.grammar.specs.Tree.{Tree}
+use Rattle.grammar.specs.Blocks.{checkBlocks, spans, treelessOpener, treeOf}
+use Rattle.grammar.specs.Answer.{Reading, tokensOf, offsetOf, readText, readSpans, spanOffset, spansOf, PastChecks}
+use Rattle.grammar.specs.Nodes.{count}
+use Rattle.grammar.proofs.Scanned.{length-tokens}
+use Rattle.grammar.proofs.SpanOrder.{treeless-within}
+use Rattle.grammar.proofs.Logic.{impossible}
+use Rattle.grammar.proofs.Readings.{past-reads, reading-tree}
+use Rattle.rows.specs.Fields.{Holds}
+use Rattle.rows.specs.Tokens.{range}
+use Rattle.rows.specs.Agreeing.{Agrees}
+use Rattle.rows.specs.Reading.{Ready}
+use Rattle.rows.proofs.Bounded.{bounded-start}
+use Rattle.climb.specs.Searched.{Rows, InForce, Flat, treeless, Checks}
+use Rattle.climb.specs.Searched as Climb
+use Rattle.climb.specs.declared.spans.Spans.{Spans}
+use Rattle.climb.specs.declared.spans.Spans.the-variants as Answer
+use Rattle.checks.specs.declared.Checked.{Checked}
+use Rattle.checks.specs.declared.Checked.the-variants.{Passed, Refused}
+use Rattle.checks.specs.Checking.{Classified, offsetIn, Checking}
+use Rattle.checks.proofs.Stages.{offset-in, own-tokens, refusal}
+
+-- The answers of the search tell the openers apart.
+treeless-same : (a b : Option ℕ) → treeless a ≡ treeless b → a ≡ b
+unfolding treeless
+treeless-same none none e = refl
+treeless-same none (some j) e = impossible cc
+treeless-same (some i) none e = impossible cc
+treeless-same (some i) (some j) e = ap some (cc e)
+
+not-trees : {k at : ℕ} (o : Option ℕ) → treeless o ≡ Answer.Trees k at → ⊥
+unfolding treeless
+not-trees none e = impossible cc
+not-trees (some i) e = impossible cc
+
+module _ {text : Bytes} {K R O : List ℕ} {n : ℕ} {nested : Bool} (v : Classified text K R O n nested) where
+  abbrev ps : List Placed
+  ps = v .matched .scanned .placed
+
+  pub rows : Rows K R O n
+  rows = record { tokens = v .matched .scanned .tokens; roles = v .matched .scanned .roles; roots = v .matched .scanned .roots }
+
+  past : PastChecks text ps
+  past =
+      record {
+        short = v .matched .scanned .short;
+        scanned = v .matched .scanned .stored .scanned;
+        nested = v .matched .nests;
+        declared = ap (λ j. checkBlocks (suc j) startTable 0 (tokensOf ps)) (sym (v .matched .scanned .counted)) ∙ v .declared;
+      }
+
+  pub in-force : InForce text startTable K R 0 n
+  in-force = record { bounded = bounded-start; agrees = v .agrees }
+
+  module _ (O′ : List ℕ) (r : Spans) (h : Climb.Checked K R n O O′ r) where
+    abbrev whole : Option Tree
+    whole = treeOf startTable (tokensOf ps)
+
+    checks : Checks text startTable K n O′ whole r
+    checks = rw (own-tokens (v .matched)) at (h .answer text startTable in-force)
+
+    own-spans : spans (suc n) startTable none 0 (tokensOf ps) ≡ spansOf ps
+    own-spans = ap (λ j. spans (suc j) startTable none 0 (tokensOf ps)) (v .matched .scanned .counted)
+
+    -- There is no tree, and the first span without one is named.
+    refuses : (o : Option ℕ) → r ≡ treeless o → (p : ℕ) → p ≡ spanOffset text ps o → ((t : Tree) → r ≡ treeless o → whole ≡ some t → ⊥)
+        → Checking text K R O′ (Refused 11 p)
+    unfolding readSpans
+    refuses o e p f never = go whole refl checks
+      where
+        go : (w : Option Tree) → whole ≡ w → Checks text startTable K n O′ w r → Checking text K R O′ (Refused 11 p)
+        go none g c =
+            let same : treeless (treelessOpener (spansOf ps)) ≡ treeless o =
+            sym (c ∙ ap (λ ts. treeless (treelessOpener (spans (suc n) startTable none 0 ts))) (own-tokens (v .matched))
+            ∙ ap (λ ss. treeless (treelessOpener ss)) own-spans) ∙ e in
+            let opener : treelessOpener (spansOf ps) ≡ o = treeless-same _ o same in
+            refusal text K R O′ 11 p
+            (past-reads text ps past ∙ ap (readSpans text ps) g ∙ ap (λ x. refused 11 (spanOffset text ps x)) opener ∙ ap (refused 11) (sym f))
+        go (some t) g c = absurd (never t e g)
+
+    pub no-tree : r ≡ Answer.NoTree → Checking text K R O′ (Refused 11 0)
+    unfolding treeless spanOffset
+    no-tree e = refuses none e 0 refl (λ t f g. never t g)
+      where
+        never : (t : Tree) → whole ≡ some t → ⊥
+        never t g = let c = subst (λ w. Checks text startTable K n O′ w r) g checks in let z = sym (c .0 .1) ∙ e in impossible cc
+
+    pub no-tree-behind : (i : ℕ) → r ≡ Answer.NoTreeBehind i → Checking text K R O′ (Refused 11 (offsetIn text K n i))
+    unfolding treeless spanOffset
+    no-tree-behind i e = refuses (some i) e (offsetIn text K n i) (offset-in (v .matched .scanned) i within) (λ t f g. never t g)
+      where
+        never : (t : Tree) → whole ≡ some t → ⊥
+        never t g = let c = subst (λ w. Checks text startTable K n O′ w r) g checks in let z = sym (c .0 .1) ∙ e in impossible cc
+
+        opener : treelessOpener (spansOf ps) ≡ some i
+        opener = go whole refl checks
+          where
+            go : (w : Option Tree) → whole ≡ w → Checks text startTable K n O′ w r → treelessOpener (spansOf ps) ≡ some i
+            go none g c =
+                treeless-same _ (some i)
+                (sym (c ∙ ap (λ ts. treeless (treelessOpener (spans (suc n) startTable none 0 ts))) (own-tokens (v .matched))
+                ∙ ap (λ ss. treeless (treelessOpener ss)) own-spans) ∙ e)
+            go (some t) g c = absurd (never t g)
+
+        within : i ≤ n
+        within =
+            let l = treeless-within (suc (length ps)) startTable (tokensOf ps) (v .matched .nests) i opener in
+            omega (arith, v .matched .scanned .counted, length-tokens ps)
+
+    -- There is one.
+    pub trees : (k at : ℕ) → r ≡ Answer.Trees k at → Checking text K R O′ (Passed n k at)
+    unfolding readSpans treeless
+    trees k at e = go whole refl checks
+      where
+        go : (w : Option Tree) → whole ≡ w → Checks text startTable K n O′ w r → Checking text K R O′ (Passed n k at)
+        go none g c = absurd (not-trees (treelessOpener (spans (suc n) startTable none 0 (range text K 0 n))) (sym c ∙ e))
+        go (some t) g c =
+            let reads : readText text ≡ passed (record { tokens = ps; tree = t }) = past-reads text ps past ∙ ap (readSpans text ps) g in
+            let z : Answer.Trees (count t) (c .0 .0) ≡ Answer.Trees k at = sym (c .0 .1) ∙ e in
+            let x : count t ≡ k = cc in
+            let y : c .0 .0 ≡ at = cc in
+            rw reads (
+              (at, cc (v .matched .scanned .counted, x), ap suc (sym y) ∙ c .0 .2),
+              record {
+                short = v .matched .scanned .short;
+                stored = v .matched .scanned .stored;
+                tokens = subst (λ j. Holds 4 K j) (v .matched .scanned .counted) (v .matched .scanned .tokens);
+                roles = subst (λ j. Holds 4 R j) (v .matched .scanned .counted) (v .matched .scanned .roles);
+                roots = subst (λ j. Holds 2 O′ j) (v .matched .scanned .counted) (v .matched .scanned .roots .0, omega (arith, v .matched .scanned .roots .1, h .long));
+                agrees = subst (λ j. Agrees text K R startTable 0 j) (v .matched .scanned .counted) (v .agrees);
+                isTree = reading-tree text (record { tokens = ps; tree = t }) reads .1;
+                rooted = c .1;
+              },
+            )

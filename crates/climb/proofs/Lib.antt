@@ -1,0 +1,14 @@
+pub mod Beside
+pub mod Roles
+pub mod Pass
+pub mod Coming
+pub mod Waiting
+pub mod Climbing
+pub mod Kept
+pub mod Spare
+pub mod Parts
+pub mod Lets
+pub mod Openers
+pub mod Found
+pub mod Treeless
+pub mod Hanging

@@ -1,0 +1,184 @@
+-- A declaration over a row of tokens. A part refuses where no token of its kind stands; where one stands, what the code reads at its place
+-- are its characters, and the part goes on behind it, at the place behind the blanks.
+use mathlib.Core.Path.{_≡_, refl, sym, ap, ap₂, subst, _∙_}
+use mathlib.Core.Bool.{Bool, true, false}
+use mathlib.Core.List.{List, [], _∷_}
+use Prim.Native.Nat.{ℕ, suc, _+_, _-_, _≤_, _<_}
+use native.Mathlib.Numerals.{add-one}
+use native.Mathlib.Omega.{arith}
+use lib.ListN.{length, take, drop, length-take, length-drop}
+use Rattle.grammar.specs.Bytes.{Bytes}
+use Rattle.grammar.specs.Token.{Token, isBlankByte, isStructure, structureNumber}
+use Rattle.grammar.specs.Scan.{Placed}
+use Rattle.grammar.specs.Coded.{tokenOf}
+use Rattle.grammar.specs.Answer.{offsetOf}
+use Rattle.grammar.specs.Declaration as D
+use Rattle.grammar.specs.Declaration.{Declaration, unfit, parsed, symbolOf, isSemicolon, closed, operatorPart, declaration}
+use Rattle.grammar.proofs.Logic.{clash}
+use Rattle.byte_strings.proofs.Suffixes.{run-within}
+use Rattle.rows.specs.Fields.{kind, start, size}
+use Rattle.rows.specs.Tokens.{charactersOf, tokenIn, tokensIn, range, Stored}
+use Rattle.rows.proofs.Ranges.{range-next}
+use Rattle.rows.proofs.Stored.{stored-kind, stored-offset, stored-characters, stored-next}
+use Rattle.declaration_part.specs.declared.parse.Parsed.{Parsed}
+use Rattle.declaration_part.specs.declared.parse.Parsed.the-variants.{Unfit}
+use Rattle.declaration_part.specs.Parsing.{nextPlace, Parses}
+use Rattle.declaration_part.specs.Parts.{stands, charactersFrom, operatorEnd}
+use Rattle.declaration_part.proofs.Parts.{stands-here, stands-cases, standing, from-here, from-none, end-operator, end-semicolon, end-behind}
+use Rattle.declaration_part.proofs.DeclarationParts.{Refuses, operator-refuses, closed-refuses}
+
+-- What is read at a place of the text ends in the text, and so do the blanks behind it.
+module _ (k : ℕ) (text : Bytes) (K : List ℕ) (at to place : ℕ) (h : place ≤ length text) where
+  read-within : place + length (charactersFrom k text K at to place) ≤ length text
+  read-within = go (stands k K at to) refl
+    where
+      go : (b : Bool) → stands k K at to ≡ b → place + length (charactersFrom k text K at to place) ≤ length text
+      go true s = rw (from-here k K at to text place s) (simp (length-take, length-drop) (omega arith))
+      go false s = rw (from-none k K at to text place s) (omega arith)
+
+  pub next-within :
+      (w : Bytes) → w ≡ charactersFrom k text K at to place
+      → (length w ≤ length text) × (nextPlace text place (length w) ≤ length text)
+  unfolding nextPlace
+  next-within w e =
+      let r : place + length w ≤ length text = rw e read-within in
+      (omega arith, run-within isBlankByte text (place + length w) r)
+
+module _ {text : Bytes} {ps : List Placed} {K : List ℕ} (v : Stored text ps K) (from to : ℕ) (h : to < length ps) where
+  range-end : (at : ℕ) → to ≤ at → range text K at to ≡ []
+  unfolding tokensIn
+  range-end at l = let e : to - at ≡ 0 = omega arith in rw e
+
+  -- A part by what stands at a token's number: it refuses where no token of its kind does.
+  refused-at : {part : List Token → D.Parsed} {k n : ℕ} → Refuses part k n → (at : ℕ) → stands k K at to ≡ false → part (range text K at to) ≡ unfit n
+  refused-at {part} {k} r at s =
+      stands-cases
+      k
+      K
+      at
+      to
+      (λ l. ap part (range-end at l) ∙ r .ended)
+      (λ l e. absurd (clash (stands-here k K at to l e) s))
+      (λ l d. ap part (range-next text K at to l) ∙ r .other _ _ (λ e. d (stored-kind v at (omega arith) ∙ e)))
+
+  here-at : (k at : ℕ) → stands k K at to ≡ true → range text K at to ≡ tokenOf k (charactersOf text K at) ∷ range text K (at + 1) to
+  unfolding tokenIn
+  here-at k at s =
+      let p = standing k K at to s in
+      range-next text K at to (p .0)
+      ∙ ap (λ j. tokenOf j (charactersOf text K at) ∷ range text K (suc at) to) (p .1)
+      ∙ ap (λ n. tokenOf k (charactersOf text K at) ∷ range text K n to) (sym (add-one at))
+
+  -- Behind a word or a number begins the next token, and where it is no quoted name, its characters.
+  next-start : (at : ℕ) → at + 1 < length ps → kind K at < 3 → (kind K (at + 1) ≡ 3 → ⊥) → nextPlace text (start K at) (size K at) ≡ start K (at + 1)
+  unfolding nextPlace
+  next-start at l d q =
+      sym (stored-offset v (at + 1) l q ∙ ap (offsetOf text ps) (add-one at) ∙ stored-next v at (omega arith) (λ m o. omega arith))
+
+  -- The declaration is what a part makes of the tokens from number `at` on, the first of which begins at `place`.
+  pub record Gone (part : List Token → D.Parsed) (at place : ℕ) : Type 0 where
+    pub goes : declaration (range text K from to) ≡ part (range text K at to)
+    pub begins : at < to → (kind K at ≡ 3 → ⊥) → place ≡ start K at
+
+  -- What the code answers agrees with the declaration.
+  abbrev pub Answered : Parsed → Type 0
+  Answered = Parses K from (declaration (range text K from to))
+
+  unfit-at : (n at : ℕ) → at ≡ from + n → declaration (range text K from to) ≡ unfit n → Answered (Unfit at)
+  unfit-at n at a e = subst (λ p. Parses K from p (Unfit at)) (sym e) (ap Unfit a)
+
+  module _ {part : List Token → D.Parsed} {at place : ℕ} (g : Gone part at place) where
+    module _ (k : ℕ) (d : k < 3) (w : Bytes) (e : w ≡ charactersFrom k text K at to place) where
+      begins-here : stands k K at to ≡ true → place ≡ start K at
+      begins-here s = let p = standing k K at to s in g .begins (p .0) (λ q. omega (arith, p .1))
+
+      characters-here : stands k K at to ≡ true → w ≡ charactersOf text K at
+      characters-here s = e ∙ from-here k K at to text place s ∙ ap (λ x. take (size K at) (drop x text)) (begins-here s)
+
+      read-here : stands k K at to ≡ true → range text K at to ≡ tokenOf k w ∷ range text K (at + 1) to
+      read-here s = here-at k at s ∙ ap (λ c. tokenOf k c ∷ range text K (at + 1) to) (sym (characters-here s))
+
+      -- The part refuses what is read.
+      pub read-unfit : (n : ℕ) → at ≡ from + n → Refuses part k n → ((ts : List Token) → part (tokenOf k w ∷ ts) ≡ unfit n) → Answered (Unfit at)
+      read-unfit n a r u = unfit-at n at a (g .goes ∙ go (stands k K at to) refl)
+        where
+          go : (b : Bool) → stands k K at to ≡ b → part (range text K at to) ≡ unfit n
+          go true s = ap part (read-here s) ∙ u _
+          go false s = refused-at r at s
+
+      -- The part goes on behind what is read.
+      module _ (n : w ≡ [] → ⊥) where
+        some-here : stands k K at to ≡ true
+        some-here = go (stands k K at to) refl
+          where
+            go : (b : Bool) → stands k K at to ≡ b → stands k K at to ≡ true
+            go true s = s
+            go false s = absurd (n (e ∙ from-none k K at to text place s))
+
+        pub size-here : length w ≡ size K at
+        size-here = let p = standing k K at to some-here in ap length (characters-here some-here) ∙ stored-characters v at (omega arith)
+
+        pub within-here : at < to
+        within-here = standing k K at to some-here .0
+
+        pub read-on :
+            (next place′ : ℕ) → next ≡ at + 1 → place′ ≡ nextPlace text place (length w) → {further : List Token → D.Parsed}
+            → ((ts : List Token) → part (tokenOf k w ∷ ts) ≡ further ts) → Gone further next place′
+        read-on next place′ a b {further} f =
+            let p = standing k K at to some-here in
+            record {
+              goes = g .goes ∙ ap part (read-here some-here) ∙ f _ ∙ ap (λ m. further (range text K m to)) (sym a);
+              begins = λ l q.
+                  b
+                  ∙ ap₂ (nextPlace text) (begins-here some-here) size-here
+                  ∙ next-start at (omega arith) (omega (arith, p .1)) (λ z. q (ap (kind K) a ∙ z))
+                  ∙ ap (start K) (sym a);
+            }
+
+  -- The end of a declaration: the operator and its `;`.
+  module _ (i : ℕ) (make : Bytes → Declaration) (at : ℕ) where
+    operator-here :
+        stands 1 K at to ≡ true → operatorPart i make (range text K at to) ≡ closed (suc i) (make (charactersOf text K at)) (range text K (at + 1) to)
+    unfolding operatorPart symbolOf tokenOf
+    operator-here s = ap (operatorPart i make) (here-at 1 at s)
+
+    closed-here : (d : Declaration) (j : ℕ) → stands 6 K j to ≡ true → closed (suc i) d (range text K j to) ≡ parsed d (range text K (j + 1) to)
+    unfolding closed isSemicolon isStructure structureNumber tokenOf
+    closed-here d j s = ap (closed (suc i) d) (here-at 6 j s)
+
+    operator-cases :
+        {X : Type 0} → (operatorEnd K at to ≡ at → operatorPart i make (range text K at to) ≡ unfit i → X)
+        → (operatorEnd K at to ≡ at + 1 → operatorPart i make (range text K at to) ≡ unfit (suc i) → X)
+        → (operatorEnd K at to ≡ at + 2 → stands 1 K at to ≡ true
+        → operatorPart i make (range text K at to) ≡ parsed (make (charactersOf text K at)) (range text K (at + 1 + 1) to) → X)
+        → X
+    operator-cases {X} none bare whole = go (stands 1 K at to) (stands 6 K (at + 1) to) refl refl
+      where
+        go : (a b : Bool) → stands 1 K at to ≡ a → stands 6 K (at + 1) to ≡ b → X
+        go false b s z = none (end-operator K at to s) (refused-at (operator-refuses i make) at s)
+        go true false s z =
+            bare (end-semicolon K at to s z) (operator-here s ∙ refused-at (closed-refuses (suc i) (make _)) (at + 1) z)
+        go true true s z = whole (end-behind K at to s z) s (operator-here s ∙ closed-here (make _) (at + 1) z)
+
+    module _ {place : ℕ} (g : Gone (operatorPart i make) at place) (e : ℕ) (n : e ≡ operatorEnd K at to) where
+      pub operator-unfit : at ≡ from + i → e < at + 2 → Answered (Unfit e)
+      operator-unfit a l =
+          operator-cases
+          (λ z u. unfit-at i e (n ∙ z ∙ a) (g .goes ∙ u))
+          (λ z u. unfit-at (suc i) e (omega arith) (g .goes ∙ u))
+          (λ z s u. absurd (omega arith))
+
+      -- The code's answer has to agree with a declaration of some operator.
+      pub operator-given :
+          at + 2 ≤ e → (r : Parsed) → (place ≡ start K at → (m : Bytes) (rest : List Token) → Parses K from (parsed (make m) rest) r)
+          → Answered r
+      operator-given l r says =
+          operator-cases
+          (λ z u. absurd (omega arith))
+          (λ z u. absurd (omega arith))
+          (λ z s u.
+          let p = standing 1 K at to s in
+          subst
+          (λ p. Parses K from p r)
+          (sym (g .goes ∙ u))
+          (says (g .begins (p .0) (λ q. omega (arith, p .1))) (charactersOf text K at) (range text K (at + 1 + 1) to)))

@@ -1,0 +1,6 @@
+pub mod Held
+pub mod Precedences
+pub mod Words
+pub mod Parts
+pub mod DeclarationParts
+pub mod DeclarationRow

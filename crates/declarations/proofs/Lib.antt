@@ -1,9 +1,0 @@
-pub mod Held
-pub mod Precedences
-pub mod Words
-pub mod Looks
-pub mod DeclarationParts
-pub mod Unfit
-pub mod Counts
-pub mod TokenDeclarations
-pub mod DeclarationLoop

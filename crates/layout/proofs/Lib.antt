@@ -1,2 +1,0 @@
-pub mod ItemWalks
-pub mod Items

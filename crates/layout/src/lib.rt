@@ -1,2 +1,0 @@
-// A span's items, one behind the other.
-pub mod fill;

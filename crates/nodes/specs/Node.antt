@@ -1,0 +1,45 @@
+-- What writing one node asks and leaves, and the words of an atom's node.
+use mathlib.Core.Path.{_≡_}
+use mathlib.Core.Bool.{Bool, true, false, _&&_}
+use mathlib.Core.List.{List}
+use Prim.Native.Nat.{ℕ, _+_, _-_, _*_, _≤_, _<_}
+use lib.Dec.{leb, eqb}
+use lib.ListN.{length}
+use lib.Seq.{sets}
+use Rattle.grammar.specs.Nodes.{nodeWords, nameKind, numberKind, blockKind, wordsPerNode}
+use Rattle.rows.specs.Fields.{kind, start, size, left, right}
+
+-- The words of a node with the characters of token number `i`; of an atom's node, whose kind goes by that of its token; and of the node of
+-- a block with `let` at token `i` and `in` at token `c`.
+abbrev pub tokenWords : ℕ → ℕ → ℕ → List ℕ → ℕ → List ℕ
+tokenWords k first second K i = nodeWords k first second (start K i) (size K i)
+
+unfoldable pub atomKind : ℕ → ℕ
+atomKind k = elim (eqb k 2) [ true ↦ numberKind | false ↦ nameKind ]
+
+abbrev pub atomWords : List ℕ → ℕ → List ℕ
+atomWords K i = tokenWords (atomKind (kind K i)) 0 0 K i
+
+abbrev pub blockWords : ℕ → List ℕ → ℕ → ℕ → List ℕ
+blockWords first K i c = nodeWords blockKind first 0 (start K i) (start K c + 2 - start K i)
+
+-- Token number `i` is an atom without operands.
+unfoldable pub standsAlone : List ℕ → List ℕ → ℕ → Bool
+standsAlone K O i = leb (kind K i) 3 && (eqb (left O i) 0 && eqb (right O i) 0)
+
+-- Node number `n` stands in the table.
+abbrev pub HasNode : List ℕ → ℕ → Type 0
+HasNode N n = n * wordsPerNode + wordsPerNode ≤ length N
+
+-- What a word of a node can hold.
+abbrev pub IsWord : ℕ → Type 0
+IsWord x = x < 4294967296
+
+-- There are `n` nodes, and few enough; the last one is a child.
+abbrev pub EndsInChild : ℕ → Type 0
+EndsInChild n = (1 ≤ n) × (n ≤ 4096)
+
+-- A node with the words `w` is written behind `n` nodes; the answer is how many they are then.
+pub record Appended (w N : List ℕ) (n : ℕ) (N′ : List ℕ) (r : ℕ) : Type 0 where
+  pub answer : r ≡ n + 1
+  pub written : N′ ≡ sets N (n * wordsPerNode) w

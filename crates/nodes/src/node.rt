@@ -1,0 +1,120 @@
+// The words of one node: kind, first child, second child, offset, length.
+use rows::kinds;
+use rows::tokens as row;
+ghost use mathlib.Core.Path.{_≡_};
+ghost use Prim.Native.Nat.{_+_, _-_, _*_, _≤_};
+ghost use lib.Seq.{sets};
+ghost use Rattle.grammar.specs.Nodes.{nodeWords};
+ghost use Rattle.rows.specs.Fields.{Within, start};
+ghost use Rattle.nodes.specs.Node.{tokenWords, atomWords, blockWords, HasNode, IsWord, EndsInChild, Appended};
+
+pub const WORDS: usize = 5;
+
+// Kinds of nodes.
+pub const NAME: u32 = 1;
+
+pub const NUMBER: u32 = 2;
+
+pub const PREFIX: u32 = 3;
+
+pub const INFIX: u32 = 4;
+
+pub const POSTFIX: u32 = 5;
+
+pub const BRACKET: u32 = 6;
+
+pub const BLOCK: u32 = 7;
+
+// The node with number `at` of `nodes`.
+pub fn put(
+    nodes: &mut [u32],
+    at: usize,
+    kind: u32,
+    first: usize,
+    second: usize,
+    offset: usize,
+    size: usize,
+)
+    requires { ⌜ HasNode (now nodes) at × IsWord first × IsWord second × IsWord offset × IsWord size ⌝ }
+    ensures { λ r. ⌜ now (nodes .exit) ≡ sets (now (nodes .entry)) (at * 5) (nodeWords kind first second offset size) ⌝ }
+{
+    let w = at * WORDS;
+    nodes[w] = kind;
+    nodes[w + 1] = first as u32;
+    nodes[w + 2] = second as u32;
+    nodes[w + 3] = offset as u32;
+    nodes[w + 4] = size as u32;
+}
+
+// The same with the characters of token `i`.
+fn put_token(
+    nodes: &mut [u32],
+    at: usize,
+    kind: u32,
+    first: usize,
+    second: usize,
+    tokens: &[u16],
+    i: usize,
+)
+    requires { ⌜ HasNode (now nodes) at × IsWord first × IsWord second × Within 4 (now tokens) i ⌝ }
+    ensures { λ r. ⌜ now (nodes .exit) ≡ sets (now (nodes .entry)) (at * 5) (tokenWords kind first second (now (tokens .entry)) i) ⌝ }
+{
+    let start = row::start(tokens, i);
+    let size = row::size(tokens, i);
+    put(nodes, at, kind, first, second, start, size);
+}
+
+// The node of an atom.
+pub fn leaf(tokens: &[u16], i: usize, nodes: &mut [u32]) -> usize
+    requires { ⌜ Within 4 (now tokens) i × HasNode (now nodes) 0 ⌝ }
+    ensures { λ r. ⌜ Appended (atomWords (now (tokens .entry)) i) (now (nodes .entry)) 0 (now (nodes .exit)) r ⌝ }
+{
+    if row::kind(tokens, i) == kinds::NUMBER {
+        put_token(nodes, 0, NUMBER, 0, 0, tokens, i);
+        return 1;
+    }
+    put_token(nodes, 0, NAME, 0, 0, tokens, i);
+    1
+}
+
+// The node of an infix operator behind the `l` nodes of its left operand and the `r` nodes of its right one; `base` nodes stand before.
+pub fn infix(tokens: &[u16], i: usize, base: usize, l: usize, r: usize, nodes: &mut [u32]) -> usize
+    requires { ⌜ Within 4 (now tokens) i × EndsInChild (base + l) × EndsInChild (base + (l + r)) × HasNode (now nodes) (l + r) ⌝ }
+    ensures { λ a. ⌜ Appended (tokenWords 4 (base + l - 1) (base + (l + r) - 1) (now (tokens .entry)) i)
+        (now (nodes .entry)) (l + r) (now (nodes .exit)) a ⌝ }
+{
+    let n = l + r;
+    put_token(nodes, n, INFIX, base + l - 1, base + n - 1, tokens, i);
+    n + 1
+}
+
+// The node of a prefix or postfix operator (`kind`) behind the `n` nodes of its operand.
+pub fn unary(tokens: &[u16], i: usize, kind: u32, base: usize, n: usize, nodes: &mut [u32]) -> usize
+    requires { ⌜ Within 4 (now tokens) i × EndsInChild (base + n) × HasNode (now nodes) n ⌝ }
+    ensures { λ r. ⌜ Appended (tokenWords kind (base + n - 1) 0 (now (tokens .entry)) i)
+        (now (nodes .entry)) n (now (nodes .exit)) r ⌝ }
+{
+    put_token(nodes, n, kind, base + n - 1, 0, tokens, i);
+    n + 1
+}
+
+// The node of a bracket pair behind the `n` nodes of its inside.
+pub fn bracket(base: usize, n: usize, nodes: &mut [u32]) -> usize
+    requires { ⌜ EndsInChild (base + n) × HasNode (now nodes) n ⌝ }
+    ensures { λ r. ⌜ Appended (nodeWords 6 (base + n - 1) 0 0 0) (now (nodes .entry)) n (now (nodes .exit)) r ⌝ }
+{
+    put(nodes, n, BRACKET, base + n - 1, 0, 0, 0);
+    n + 1
+}
+
+// The node of the block with `let` at token `i` and `in` at token `c`, behind the `n` nodes of its body.
+pub fn block(tokens: &[u16], i: usize, c: usize, base: usize, n: usize, nodes: &mut [u32]) -> usize
+    requires { ⌜ Within 4 (now tokens) i × Within 4 (now tokens) c × (start (now tokens) i ≤ start (now tokens) c)
+        × EndsInChild (base + n) × HasNode (now nodes) n ⌝ }
+    ensures { λ r. ⌜ Appended (blockWords (base + n - 1) (now (tokens .entry)) i c) (now (nodes .entry)) n (now (nodes .exit)) r ⌝ }
+{
+    let start = row::start(tokens, i);
+    let end = row::start(tokens, c) + 2;
+    put(nodes, n, BLOCK, base + n - 1, 0, start, end - start);
+    n + 1
+}

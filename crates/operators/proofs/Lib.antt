@@ -1,0 +1,11 @@
+pub mod Roles
+pub mod Hashes
+pub mod ShortNames
+pub mod Numbered
+pub mod TableEntries
+pub mod Searches
+pub mod Starts
+pub mod SoundEntries
+pub mod Declaring
+pub mod Clearing
+pub mod Lookups

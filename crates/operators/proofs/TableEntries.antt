@@ -1,0 +1,98 @@
+-- Laws of a table's words, each for one turn of a loop: the name at an entry, the search of a name, the four conditions.
+-- They unfold the definitions of `Entries` once.
+use mathlib.Core.Path.{_≡_, refl, sym, ap}
+use mathlib.Core.Bool.{Bool, true, false}
+use mathlib.Core.List.{List}
+use Prim.Native.Nat.{ℕ, zero, suc, _+_, _-_, _*_, _≤_, _<_}
+use native.Mathlib.Numerals.{add-one}
+use native.Mathlib.Omega.{arith}
+use lib.ListN.{length, take, drop, length-take, length-drop}
+use borrow.Author.Tests.{lt-ltb, le-ltb}
+use Rattle.grammar.specs.Fault.{longestText}
+use Rattle.grammar.specs.Bytes.{Bytes, same}
+use Rattle.grammar.specs.Operator.{lawful, lawfulTable}
+use Rattle.grammar.proofs.Logic.{below, same-eq}
+use Rattle.rows.specs.Codes.{rolesOf}
+use Rattle.operators.specs.Entries.{word, startNames, startSize, nameIn, nameAt, Stands, codedFind, operatorsFrom}
+use Rattle.operators.specs.declared.table.Found.the-variants.{At, Nothing}
+
+-- Names of different lengths are different.
+pub other-length : (x y : Bytes) → (length x ≡ length y → ⊥) → same x y ≡ false
+other-length x y d = go (same x y) refl
+  where
+    go : (b : Bool) → same x y ≡ b → b ≡ false
+    go true e = absurd (d (ap length (same-eq x y e)))
+    go false e = refl
+
+-- A name is a part of the text, or of the starting names, with as many bytes as it is said to have.
+module _ (text : Bytes) (start size : ℕ) where
+  pub name-in-text : start < longestText → nameIn text start size ≡ take size (drop start text)
+  unfolding nameIn
+  name-in-text h = rw (lt-ltb start longestText h, nameIn)
+
+  pub name-at-start : longestText ≤ start → nameIn text start size ≡ take size (drop (start - longestText) startNames)
+  unfolding nameIn
+  name-at-start h = rw (le-ltb start longestText h, nameIn)
+
+  pub name-length : Stands text start size → length (nameIn text start size) ≡ size
+  name-length (p, q) =
+      below start longestText
+      (λ h. rw (name-in-text h) (simp (length-take, length-drop) (omega (arith, p h))))
+      (λ h. rw (name-at-start h) (simp (length-take, length-drop) (omega (arith, q h))))
+
+  -- So where it ends can be said.
+  pub name-end : (n : ℕ) → Stands text start size → length text < n → longestText + length startNames < n → start + size < n
+  name-end n (p, q) a b = below start longestText (λ h. omega (arith, p h)) (λ h. omega (arith, q h))
+
+-- Each starting name has its bytes among them.
+pub start-room : (k : ℕ) → k < 8 → 3 * k + startSize k ≤ length startNames
+unfolding startSize
+start-room zero h = omega arith
+start-room (suc zero) h = omega arith
+start-room (suc (suc zero)) h = omega arith
+start-room (suc (suc (suc k))) h = omega arith
+
+-- Looking for a name: from the first entry on ..
+pub find-all : (text : Bytes) (W : List ℕ) (name : Bytes) (n : ℕ) → codedFind text W name 0 n ≡ codedFind text W name 0 (n - 0)
+find-all text W name n = ap (codedFind text W name 0) (omega arith)
+
+-- .. up to the last ..
+pub find-none : (text : Bytes) (W : List ℕ) (name : Bytes) (i n : ℕ) → n ≤ i → codedFind text W name i (n - i) ≡ Nothing
+unfolding codedFind
+find-none text W name i n h = let k : n - i ≡ 0 = omega arith in rw (k, codedFind)
+
+-- .. at entry `i` of `n`, it is this one, or one behind it, or there is none.
+module _ (text : Bytes) (W : List ℕ) (name : Bytes) (i n : ℕ) (h : i < n) where
+  pub find-here : same name (nameAt text W i) ≡ true → codedFind text W name i (n - i) ≡ At i
+  unfolding codedFind
+  find-here e = let k : n - i ≡ suc (n - (i + 1)) = omega arith in rw (k, codedFind, e)
+
+  pub find-next :
+      same name (nameAt text W i) ≡ false → codedFind text W name i (n - i) ≡ codedFind text W name (i + 1) (n - (i + 1))
+  unfolding codedFind
+  find-next e =
+      let k : n - i ≡ suc (n - (i + 1)) = omega arith in
+      rw (k, codedFind, e) (ap (λ j. codedFind text W name j (n - (i + 1))) (sym (add-one i)))
+
+-- The four conditions, entry by entry.
+module _ (text W : List ℕ) where
+  pub lawful-all : (n : ℕ) → lawfulTable (operatorsFrom text W 0 n) ≡ lawfulTable (operatorsFrom text W 0 (n - 0))
+  lawful-all n = ap (λ k. lawfulTable (operatorsFrom text W 0 k)) (omega arith)
+
+  pub lawful-end : (i n : ℕ) → n ≤ i → lawfulTable (operatorsFrom text W i (n - i)) ≡ true
+  unfolding lawfulTable operatorsFrom
+  lawful-end i n h = let k : n - i ≡ 0 = omega arith in rw (k, operatorsFrom)
+
+  module _ (i n : ℕ) (h : i < n) where
+    pub lawful-not :
+        lawful (rolesOf (word 2 W i) (word 3 W i) (word 4 W i)) ≡ false → lawfulTable (operatorsFrom text W i (n - i)) ≡ false
+    unfolding lawfulTable operatorsFrom
+    lawful-not e = let k : n - i ≡ suc (n - (i + 1)) = omega arith in rw (k, operatorsFrom, e, lawfulTable)
+
+    pub lawful-next :
+        lawful (rolesOf (word 2 W i) (word 3 W i) (word 4 W i)) ≡ true
+        → lawfulTable (operatorsFrom text W i (n - i)) ≡ lawfulTable (operatorsFrom text W (i + 1) (n - (i + 1)))
+    unfolding lawfulTable operatorsFrom
+    lawful-next e =
+        let k : n - i ≡ suc (n - (i + 1)) = omega arith in
+        rw (k, operatorsFrom, e, lawfulTable) (ap (λ j. lawfulTable (operatorsFrom text W j (n - (i + 1)))) (sym (add-one i)))

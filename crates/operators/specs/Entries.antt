@@ -1,0 +1,139 @@
+-- The operators in force as words: the table that a struct stands for, over a text.
+use mathlib.Core.Path.{_≡_}
+use mathlib.Core.Bool.{true, false}
+use mathlib.Core.Logic.{_⊎_}
+use mathlib.Core.List.{List, [], _∷_}
+use mathlib.Core.Option.{some}
+use Prim.Native.Nat.{ℕ, zero, suc, _+_, _-_, _*_, _≤_, _<_}
+use lib.Dec.{ltb, leb}
+use lib.ListN.{length, take, drop, getD}
+use Rattle.grammar.specs.Fault.{longestText}
+use Rattle.grammar.specs.Bytes.{Bytes, bytes, same}
+use Rattle.grammar.specs.Operator.{Role}
+use Rattle.grammar.specs.Operator as G
+use Rattle.grammar.specs.Declaration.{mostOperators, startTable}
+use Rattle.grammar.specs.Coded.{fixityOf}
+use Rattle.rows.specs.Codes.{roleOf, rolesOf, IsRole}
+use Rattle.operators.specs.declared.table.Found.{Found}
+use Rattle.operators.specs.declared.table.Found.the-variants.{At, Nothing}
+use Rattle.operators.specs.declared.table.Quick.{Quick}
+use Rattle.operators.specs.declared.table.Quick.the-variants as Known
+use Rattle.operators.specs.declared.table.Table.{Table}
+
+-- The words of entry `i`: where its name begins and how many bytes it has, and the numbers of its roles.
+abbrev pub word : ℕ → List ℕ → ℕ → ℕ
+word k W i = getD W (i * 5 + k) 0
+
+abbrev pub nameStart : List ℕ → ℕ → ℕ
+nameStart W i = word 0 W i
+
+abbrev pub nameSize : List ℕ → ℕ → ℕ
+nameSize W i = word 1 W i
+
+-- The names of the starting operators, three bytes to each, and how many bytes each has.
+abbrev pub startNames : Bytes
+startNames = bytes "or andnot=  <  +  -  *"
+
+unfoldable pub startSize : ℕ → ℕ
+startSize zero = 2
+startSize (suc zero) = 3
+startSize (suc (suc zero)) = 3
+startSize (suc (suc (suc k))) = 1
+
+-- A name: a part of the text, or, from offset 16,384 on, of the starting names.
+unfoldable pub nameIn : Bytes → ℕ → ℕ → Bytes
+nameIn text start size =
+    elim (ltb start longestText) [ true ↦ take size (drop start text) | false ↦ take size (drop (start - longestText) startNames) ]
+
+abbrev pub nameAt : Bytes → List ℕ → ℕ → Bytes
+nameAt text W i = nameIn text (nameStart W i) (nameSize W i)
+
+-- A name lies within the text, or within the starting names.
+abbrev pub Stands : Bytes → ℕ → ℕ → Type 0
+Stands text start size =
+    (start < longestText → start + size ≤ length text) × (longestText ≤ start → start + size ≤ longestText + length startNames)
+
+-- The first of `n` entries from number `i` on that has the name.
+unfoldable pub codedFind : Bytes → List ℕ → Bytes → ℕ → ℕ → Found
+codedFind text W name i zero = Nothing
+codedFind text W name i (suc n) =
+    elim (same name (nameAt text W i)) [ true ↦ At i | false ↦ codedFind text W name (suc i) n ]
+
+-- `n` operators from entry `i` on, and those that a table stands for.
+unfoldable pub operatorsFrom : Bytes → List ℕ → ℕ → ℕ → G.Table
+operatorsFrom text W i zero = []
+operatorsFrom text W i (suc n) =
+    record { name = nameAt text W i; roles = rolesOf (word 2 W i) (word 3 W i) (word 4 W i) } ∷ operatorsFrom text W (suc i) n
+
+abbrev pub tableBy : List ℕ → List ℕ → ℕ → Table
+tableBy W H n = record { words = W; hints = H; count = n }
+
+unfoldable pub tableOf : Bytes → Table → G.Table
+tableOf text t = operatorsFrom text (t .words) 0 (t .count)
+
+-- A number below 128 from the last two bytes of a name.
+unfoldable pub lessBy : ℕ → ℕ → ℕ
+lessBy n h = elim (leb n h) [ true ↦ h - n | false ↦ h ]
+
+unfoldable pub lastTwo : Bytes → ℕ
+lastTwo name =
+    elim (ltb 1 (length name)) [
+      | true ↦ getD name (length name - 1) 0 + getD name (length name - 2) 0 * 10
+      | false ↦ getD name (length name - 1) 0
+    ]
+
+unfoldable pub hashOf : Bytes → ℕ
+hashOf name = lessBy 128 (lessBy 256 (lessBy 512 (lessBy 1024 (lessBy 2048 (lastTwo name)))))
+
+-- What holds of every table: room for its operators; a name that is a part of the text, or one of the starting names; numbers of roles; a
+-- hint for its hash. No two operators have one name, and each has a role.
+pub record Sound (text : Bytes) (t : Table) : Type 0 where
+  pub sized : t .count ≤ mostOperators
+  pub inText : (j : ℕ) → j < t .count → nameStart (t .words) j < longestText → nameStart (t .words) j + nameSize (t .words) j ≤ length text
+  pub atStart :
+      (j : ℕ) → j < t .count → longestText ≤ nameStart (t .words) j
+      → (k : ℕ) × (k < 8) × (nameStart (t .words) j ≡ longestText + 3 * k) × (nameSize (t .words) j ≡ startSize k)
+  pub named : (j : ℕ) → j < t .count → 1 ≤ nameSize (t .words) j
+  pub roles : (j : ℕ) → j < t .count → IsRole (word 2 (t .words) j) × IsRole (word 3 (t .words) j) × IsRole (word 4 (t .words) j)
+  pub hinted : (j : ℕ) → j < t .count → 0 < getD (t .hints) (hashOf (nameAt text (t .words) j)) 0
+  pub distinct : G.Distinct (tableOf text t)
+  pub alive : G.Alive (tableOf text t)
+
+-- The table of the starting operators, whatever the text.
+abbrev pub Starting : Table → Type 0
+Starting t = (text : Bytes) → Sound text t × (tableOf text t ≡ startTable)
+
+-- A name that can be looked for.
+abbrev pub IsName : Bytes → Type 0
+IsName name = 1 ≤ length name
+
+-- The number of the starting operator with the name, or 64.
+abbrev pub Starts : Bytes → ℕ → Type 0
+Starts name r = ((r < 8) × (name ≡ take (startSize r) (drop (3 * r) startNames))) ⊎ (r ≡ 64)
+
+-- What is said of a name at once, where anything is.
+abbrev pub Quickly : Found → Quick → Type 0
+Quickly f (Known.At k) = f ≡ At k
+Quickly f Known.Nothing = f ≡ Nothing
+Quickly f Known.Unknown = Unit {0}
+
+-- What declaring a role asks: a name that stands in the text, what the table has of it, and room for it.
+pub record Declarable (text : Bytes) (t : Table) (found : Found) (start size hash fixity code : ℕ) : Type 0 where
+  pub sound : Sound text t
+  pub inText : start + size ≤ length text
+  pub short : length text ≤ longestText
+  pub named : (1 ≤ size) × (size ≤ 63)
+  pub looked : found ≡ codedFind text (t .words) (take size (drop start text)) 0 (t .count)
+  pub hashed : (hash ≡ hashOf (take size (drop start text))) × (hash < 128)
+  pub isRole : IsRole code × (0 < code)
+  pub room : found ≡ Nothing → t .count < mostOperators
+
+-- What it gives: "A declared role replaces the mark's former role of that kind."
+pub record Declared (text : Bytes) (t : Table) (start size fixity code : ℕ) (u : Table) : Type 0 where
+  pub sound : Sound text u
+  pub table : (r : Role) → roleOf code ≡ some r → tableOf text u ≡ G.declareRole (take size (drop start text)) (fixityOf fixity) r (tableOf text t)
+
+-- All roles of the operator at an entry are removed.
+pub record Cleared (text : Bytes) (t : Table) (entry : ℕ) (u : Table) : Type 0 where
+  pub sound : Sound text u
+  pub table : tableOf text u ≡ G.removeRoles (nameAt text (t .words) entry) (tableOf text t)

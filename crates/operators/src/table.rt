@@ -1,0 +1,353 @@
+// The operators in force, by value: five words to an operator, and hints where a name stands.
+use crate::conditions;
+use rows::role;
+ghost use mathlib.Core.Path.{_≡_};
+ghost use mathlib.Core.List.{List};
+ghost use Prim.Native.Nat.{ℕ, _≤_, _<_};
+ghost use Rattle.grammar.specs.Bytes.{Bytes, same};
+ghost use Rattle.grammar.specs.Operator.{lawfulTable};
+ghost use Rattle.operators.specs.Entries.{word, nameStart, nameSize, nameIn, nameAt, Stands, codedFind, operatorsFrom, tableBy, hashOf, Sound};
+ghost use Rattle.operators.specs.Entries.{Starting, IsName, Starts, Quickly, Declarable, Declared, Cleared};
+
+pub const MAX_OPERATORS: usize = 64;
+
+const STARTING: usize = 8;
+
+// No entry.
+pub const NONE: usize = 64;
+
+// Where the name begins and how many bytes it has, and the numbers of its roles.
+pub const WORDS: usize = 5;
+
+const START: usize = 0;
+
+const SIZE: usize = 1;
+
+const PREFIX: usize = 2;
+
+const INFIX: usize = 3;
+
+const POSTFIX: usize = 4;
+
+// From this offset on a name stands among those of the starting operators, three bytes to each.
+const NAMES: usize = 16384;
+
+// The latest operator whose name has a hash stands in `hints`, one more than its entry; 0 where there never was one.
+pub struct Table {
+    pub words: [u16; 320],
+    pub hints: [u8; 128],
+    pub count: usize,
+}
+
+pub enum Found {
+    At { entry: usize },
+    Nothing,
+}
+
+// A number below 128 from the last two bytes of a name.
+pub fn hash(name: &[u8]) -> usize
+    requires { ⌜ IsName (now name) ⌝ }
+    ensures { λ r. ⌜ (r ≡ hashOf (now (name .entry))) × (r < 128) ⌝ }
+{
+    let n = name.len();
+    let mut h = name[n - 1] as usize;
+    if 1 < n {
+        h += (name[n - 2] as usize) * 10;
+    }
+    if 2048 <= h {
+        h -= 2048;
+    }
+    if 1024 <= h {
+        h -= 1024;
+    }
+    if 512 <= h {
+        h -= 512;
+    }
+    if 256 <= h {
+        h -= 256;
+    }
+    if 128 <= h {
+        h -= 128;
+    }
+    h
+}
+
+// The word of an entry.
+pub fn prefix<'a>(words: &'a [u16; 320], entry: usize) -> u16
+    requires { ⌜ entry < 64 ⌝ }
+    ensures { λ r. ⌜ r ≡ word 2 (now (words .entry)) entry ⌝ }
+{
+    words[entry * WORDS + PREFIX]
+}
+
+pub fn infix<'a>(words: &'a [u16; 320], entry: usize) -> u16
+    requires { ⌜ entry < 64 ⌝ }
+    ensures { λ r. ⌜ r ≡ word 3 (now (words .entry)) entry ⌝ }
+{
+    words[entry * WORDS + INFIX]
+}
+
+pub fn postfix<'a>(words: &'a [u16; 320], entry: usize) -> u16
+    requires { ⌜ entry < 64 ⌝ }
+    ensures { λ r. ⌜ r ≡ word 4 (now (words .entry)) entry ⌝ }
+{
+    words[entry * WORDS + POSTFIX]
+}
+
+// Whether the name at an offset of the text, or of the starting names, is `name`.
+pub fn is_named(text: &[u8], start: usize, size: usize, name: &[u8]) -> bool
+    requires { ⌜ Stands (now text) start size ⌝ }
+    ensures { λ r. ⌜ r ≡ same (now (name .entry)) (nameIn (now (text .entry)) start size) ⌝ }
+{
+    if name.len() != size {
+        return false;
+    }
+    let e = start + size;
+    if start < NAMES {
+        return byte_strings::equal(name, &text[start..e]);
+    }
+    byte_strings::equal(
+        name,
+        byte_strings::cut(b"or andnot=  <  +  -  *", start - NAMES, size),
+    )
+}
+
+// The entry of the starting operator that some bytes name, NONE if they name none.
+fn starting(name: &[u8]) -> usize
+    ensures { λ r. ⌜ Starts (now (name .entry)) r ⌝ }
+{
+    match name.len() {
+        1 => match name[0] {
+            b'=' => 3,
+            b'<' => 4,
+            b'+' => 5,
+            b'-' => 6,
+            b'*' => 7,
+            _ => NONE,
+        },
+        2 => {
+            if name[0] == b'o' {
+                if name[1] == b'r' {
+                    return 0;
+                }
+            }
+            NONE
+        }
+        3 => {
+            if name[0] == b'a' {
+                if name[1] == b'n' {
+                    if name[2] == b'd' {
+                        return 1;
+                    }
+                }
+            }
+            if name[0] == b'n' {
+                if name[1] == b'o' {
+                    if name[2] == b't' {
+                        return 2;
+                    }
+                }
+            }
+            NONE
+        }
+        _ => NONE,
+    }
+}
+
+// What can be said of a name before it is compared with the names that were declared.
+pub enum Quick {
+    At { entry: usize },
+    Nothing,
+    Unknown,
+}
+
+pub fn find_quickly<'a>(
+    words: &'a [u16; 320],
+    hints: &'a [u8; 128],
+    count: usize,
+    name: &[u8],
+) -> Quick
+    requires { ⌜ ((text : Bytes) × Sound text (tableBy (now words) (now hints) count)) × IsName (now name) ⌝ }
+    ensures { λ r. ⌜ ((text : Bytes) → Sound text (tableBy (now (words .entry)) (now (hints .entry)) count)
+        → Quickly (codedFind text (now (words .entry)) (now (name .entry)) 0 count) r) ⌝ }
+{
+    let entry = starting(name);
+    if entry < count {
+        if words[entry * WORDS + START] as usize == NAMES + entry * 3 {
+            return Quick::At { entry };
+        }
+    }
+    if hints[hash(name)] == 0 {
+        return Quick::Nothing;
+    }
+    Quick::Unknown
+}
+
+// Whether entry `i` has the name.
+fn has_name<'a>(text: &[u8], words: &'a [u16; 320], i: usize, name: &[u8]) -> bool
+    requires { ⌜ (i < 64) × Stands (now text) (nameStart (now words) i) (nameSize (now words) i) ⌝ }
+    ensures { λ r. ⌜ r ≡ same (now (name .entry)) (nameAt (now (text .entry)) (now (words .entry)) i) ⌝ }
+{
+    let w = i * WORDS;
+    is_named(
+        text,
+        words[w + START] as usize,
+        words[w + SIZE] as usize,
+        name,
+    )
+}
+
+// A hint as a number of the machine's own size.
+fn wide(hint: u8) -> usize
+    ensures { λ r. ⌜ r ≡ hint ⌝ }
+{
+    hint as usize
+}
+
+// The entry that has the name, of `count`: the one that the hint for its hash gives, or another.
+pub fn find<'a>(
+    text: &[u8],
+    words: &'a [u16; 320],
+    hints: &'a [u8; 128],
+    count: usize,
+    name: &[u8],
+) -> Found
+    requires { ⌜ Sound (now text) (tableBy (now words) (now hints) count) × IsName (now name) ⌝ }
+    ensures { λ r. ⌜ r ≡ codedFind (now (text .entry)) (now (words .entry)) (now (name .entry)) 0 count ⌝ }
+{
+    let hint = wide(hints[hash(name)]);
+    if hint == 0 {
+        return Found::Nothing;
+    }
+    if hint <= count {
+        let entry = hint - 1;
+        if has_name(text, words, entry, name) {
+            return Found::At { entry };
+        }
+    }
+    let mut i: usize = 0;
+    while i < count {
+        if has_name(text, words, i, name) {
+            return Found::At { entry: i };
+        }
+        i += 1;
+    }
+    Found::Nothing
+}
+
+impl Table {
+    // The starting operators.
+    pub fn new() -> Table
+        ensures { λ r. ⌜ Starting r ⌝ }
+    {
+        let mut t = Table {
+            words: [0u16; 320],
+            hints: [0u8; 128],
+            count: STARTING,
+        };
+        t.words[0] = 16384;
+        t.words[1] = 2;
+        t.words[3] = role::LEFT + 800;
+        t.hints[72] = 1;
+        t.words[5] = 16387;
+        t.words[6] = 3;
+        t.words[8] = role::LEFT + 700;
+        t.hints[48] = 2;
+        t.words[10] = 16390;
+        t.words[11] = 3;
+        t.words[12] = role::RIGHT + 600;
+        t.hints[74] = 3;
+        t.words[15] = 16393;
+        t.words[16] = 1;
+        t.words[18] = role::NON + 500;
+        t.hints[61] = 4;
+        t.words[20] = 16396;
+        t.words[21] = 1;
+        t.words[23] = role::NON + 500;
+        t.hints[60] = 5;
+        t.words[25] = 16399;
+        t.words[26] = 1;
+        t.words[28] = role::LEFT + 400;
+        t.hints[43] = 6;
+        t.words[30] = 16402;
+        t.words[31] = 1;
+        t.words[32] = role::NON + 400;
+        t.words[33] = role::LEFT + 400;
+        t.hints[45] = 7;
+        t.words[35] = 16405;
+        t.words[36] = 1;
+        t.words[38] = role::LEFT + 300;
+        t.hints[42] = 8;
+        t
+    }
+
+    // A declared role replaces the operator's former role of that fixity. `found` says where the table has the name.
+    pub fn declare(
+        mut self,
+        found: Found,
+        start: usize,
+        size: usize,
+        hash: usize,
+        fixity: u8,
+        role: u16,
+    ) -> Table
+        requires { ⌜ ((text : Bytes) × Declarable text self found start size hash fixity role) ⌝ }
+        ensures { λ r. ⌜ ((text : Bytes) → Declarable text self found start size hash fixity role → Declared text self start size fixity role r) ⌝ }
+    {
+        let count = self.count;
+        let mut w = count * WORDS;
+        match found {
+            Found::At { entry } => {
+                w = entry * WORDS;
+            }
+            Found::Nothing => {
+                self.words[w + START] = start as u16;
+                self.words[w + SIZE] = size as u16;
+                self.words[w + PREFIX] = 0;
+                self.words[w + INFIX] = 0;
+                self.words[w + POSTFIX] = 0;
+                self.count = count + 1;
+                self.hints[hash] = (count + 1) as u8;
+            }
+        }
+        if fixity == role::INFIX {
+            self.words[w + INFIX] = role;
+        } else if fixity == role::PREFIX {
+            self.words[w + PREFIX] = role;
+        } else {
+            self.words[w + POSTFIX] = role;
+        }
+        self
+    }
+
+    // All roles of an operator are removed: the entries behind it move one place down.
+    pub fn clear(mut self, entry: usize) -> Table
+        requires { ⌜ entry < self .count × (self .count ≤ 64) ⌝ }
+        ensures { λ r. ⌜ ((text : Bytes) → Sound text self → Cleared text self entry r) ⌝ }
+    {
+        let last = self.count - 1;
+        let mut k = entry * WORDS;
+        let end = last * WORDS;
+        while k < end {
+            self.words[k] = self.words[k + WORDS];
+            k += 1;
+        }
+        self.count = last;
+        self
+    }
+}
+
+// The four conditions of `count` operators.
+pub fn all_lawful<'a>(words: &'a [u16; 320], count: usize) -> bool
+    requires { ⌜ ((text H : List ℕ) × Sound text (tableBy (now words) H count)) ⌝ }
+    ensures { λ r. ⌜ ((text : Bytes) → r ≡ lawfulTable (operatorsFrom text (now (words .entry)) 0 count)) ⌝ }
+{
+    let mut i: usize = 0;
+    while i < count {
+        if !conditions::is_lawful(prefix(words, i), infix(words, i), postfix(words, i)) {
+            return false;
+        }
+        i += 1;
+    }
+    true
+}

@@ -1,0 +1,5 @@
+pub mod Moves
+pub mod OpenPairs
+pub mod Walks
+pub mod TokenKinds
+pub mod Atoms

@@ -1,4 +1,0 @@
-pub mod Classes
-pub mod Numbers
-pub mod SpanRoles
-pub mod ItemLoop

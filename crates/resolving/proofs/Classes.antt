@@ -1,0 +1,156 @@
+-- The class of a token by its kind: each law takes the tests up to the one that holds. What a class says of the first token of an item,
+-- where its characters stand, and what is noted of an atom.
+use mathlib.Core.Path.{_≡_, refl, sym, ap, subst, _∙_}
+use mathlib.Core.Logic.{_⊎_, inl, inr}
+use mathlib.Core.List.{List}
+use Prim.Native.Nat.{ℕ, _+_, _-_, _≤_, _<_}
+use native.Mathlib.Omega.{arith}
+use lib.Dec.{eqb}
+use lib.ListN.{length, take, drop}
+use borrow.Author.Tests.{eq-eqb, ne-eqb}
+use Rattle.grammar.specs.Bytes.{Bytes}
+use Rattle.grammar.specs.Token.{symbol, number, quoted}
+use Rattle.grammar.specs.Operator.{Table}
+use Rattle.grammar.proofs.Logic.{below}
+use Rattle.rows.specs.Fields.{kind, start, size, closer, Within}
+use Rattle.rows.specs.Tokens.{charactersOf, atomOf, atomIn, IsAtomKind, Paired, done, single, bracket, block}
+use Rattle.rows.proofs.Fields.{within}
+use Rattle.rows.proofs.Stored.{stored-within, stored-sized, stored-characters}
+use Rattle.operators.specs.Entries.{codedFind, tableOf, IsName}
+use Rattle.operators.specs.declared.table.Found.{Found}
+use Rattle.operators.specs.declared.table.Found.the-variants.{At, Nothing}
+use Rattle.operators.specs.declared.table.Table as E
+use Rattle.resolving.specs.declared.Class.{Class}
+use Rattle.resolving.specs.declared.Class.the-variants.{Name, Number, Operator, Bracket, Block}
+use Rattle.resolving.specs.Resolving.{endOf, foundClass, codedClass, Ranged, NotedAt, NameNoted}
+
+module _ (text : Bytes) (K : List ℕ) (i : ℕ) (W : List ℕ) (count : ℕ) where
+  abbrev class : Class
+  class = codedClass text K i W count
+
+  abbrev finds : Found
+  finds = codedFind text W (charactersOf text K i) 0 count
+
+  -- A word or sign: what the search of its name finds.
+  class-symbol : kind K i ≡ 1 → class ≡ foundClass (start K i) (size K i) finds
+  unfolding codedClass
+  class-symbol e = rw (eq-eqb (kind K i) 1 e, codedClass)
+
+  pub class-operator : kind K i ≡ 1 → (k : ℕ) → finds ≡ At k → class ≡ Operator k
+  unfolding foundClass
+  class-operator e k f = class-symbol e ∙ ap (foundClass (start K i) (size K i)) f
+
+  pub class-name : kind K i ≡ 1 → finds ≡ Nothing → class ≡ Name (start K i) (size K i)
+  unfolding foundClass
+  class-name e f = class-symbol e ∙ ap (foundClass (start K i) (size K i)) f
+
+  -- Any other.
+  pub class-number : kind K i ≡ 2 → class ≡ Number
+  unfolding codedClass
+  class-number e = rw (ne-eqb (kind K i) 1 (λ z. omega arith), eq-eqb (kind K i) 2 e, codedClass)
+
+  pub class-bracket : kind K i ≡ 4 → class ≡ Bracket (closer K i)
+  unfolding codedClass
+  class-bracket e =
+      rw (ne-eqb (kind K i) 1 (λ z. omega arith), ne-eqb (kind K i) 2 (λ z. omega arith), eq-eqb (kind K i) 4 e, codedClass)
+
+  pub class-block : kind K i ≡ 7 → class ≡ Block (endOf K i)
+  unfolding codedClass
+  class-block e =
+      rw (
+        ne-eqb (kind K i) 1 (λ z. omega arith),
+        ne-eqb (kind K i) 2 (λ z. omega arith),
+        ne-eqb (kind K i) 4 (λ z. omega arith),
+        eq-eqb (kind K i) 7 e,
+        codedClass,
+      )
+
+  pub class-other :
+      (kind K i ≡ 1 → ⊥) → (kind K i ≡ 2 → ⊥) → (kind K i ≡ 4 → ⊥) → (kind K i ≡ 7 → ⊥) → class ≡ Name (start K i) (size K i)
+  unfolding codedClass
+  class-other a b c d = rw (ne-eqb (kind K i) 1 a, ne-eqb (kind K i) 2 b, ne-eqb (kind K i) 4 c, ne-eqb (kind K i) 7 d, codedClass)
+
+  -- What a class says: of a name, that it is no operator or that it is quoted.
+  abbrev pub Says : Class → Type 0
+  Says (Operator k) = (kind K i ≡ 1) × (finds ≡ At k)
+  Says (Name s n) = (s ≡ start K i) × (n ≡ size K i) × (((kind K i ≡ 1) × (finds ≡ Nothing)) ⊎ (kind K i ≡ 3))
+  Says Number = kind K i ≡ 2
+  Says (Bracket c) = (kind K i ≡ 4) × (closer K i ≡ c)
+  Says (Block e) = (kind K i ≡ 7) × (endOf K i ≡ e)
+
+  symbol-says : kind K i ≡ 1 → (f : Found) → finds ≡ f → Says (foundClass (start K i) (size K i) f)
+  unfolding foundClass
+  symbol-says k (At e) f = (k, f)
+  symbol-says k Nothing f = (refl, refl, inl (k, f))
+
+  atom-says : (1 ≤ kind K i) × (kind K i ≤ 3) → Says class
+  atom-says h =
+      below (kind K i) 2
+      (λ l. let k : kind K i ≡ 1 = omega (arith, h .0) in rw (class-symbol k) (symbol-says k finds refl))
+      (λ l. below (kind K i) 3
+      (λ m. let k : kind K i ≡ 2 = omega arith in rw (class-number k) k)
+      (λ m. let k : kind K i ≡ 3 = omega (arith, h .1) in
+      rw (class-other (λ z. omega arith) (λ z. omega arith) (λ z. omega arith) (λ z. omega arith)) (refl, refl, inr k)))
+
+  class-says : {to : ℕ} → Paired K i to → i < to → Says class
+  class-says done l = absurd (omega arith)
+  class-says (single l k p) m = atom-says k
+  class-says (bracket c k w l m y p q) n = rw (class-bracket k) (k, refl)
+  class-says (block c e k w v l m n y z f p q) o = rw (class-block k) (k, refl)
+
+  pub found-says : {to : ℕ} → Paired K i to → i < to → (x : Class) → x ≡ class → Says x
+  found-says p l x e = subst Says (sym e) (class-says p l)
+
+-- A token of a range stands in both rows, and its characters in the text.
+module _ {text : Bytes} {K R : List ℕ} {i to : ℕ} (g : Ranged text K R i to) (l : i < to) where
+  pub stands : i < length (g .placed)
+  stands = omega (arith, g .within)
+
+  pub token-within : Within 4 K i
+  token-within = within 4 (length (g .placed)) K i (g .tokens) stands
+
+  pub roles-within : Within 4 R i
+  roles-within = within 4 (length (g .placed)) R i (g .roles) stands
+
+  module _ {s n : ℕ} (a : s ≡ start K i) (b : n ≡ size K i) where
+    pub part-ends : s + n ≤ length text
+    part-ends = omega (arith, stored-within (g .stored) i stands)
+
+    pub part-characters : take (s + n - s) (drop s text) ≡ charactersOf text K i
+    part-characters = let e : s + n - s ≡ size K i = omega arith in rw (e, a)
+
+    pub part-named : kind K i ≤ 3 → IsName (take (s + n - s) (drop s text))
+    part-named k =
+        rw part-characters (omega (arith, stored-characters (g .stored) i stands, stored-sized (g .stored) i stands k))
+
+-- What is noted of an atom, by the kind of its token.
+module _ (text : Bytes) (K : List ℕ) (T : Table) (R : List ℕ) (i : ℕ) (R′ : List ℕ) where
+  abbrev NotedAtom : Type 0
+  NotedAtom = IsAtomKind (kind K i) × NotedAt T R i (atomIn text K i) R′
+
+  pub symbol-item : kind K i ≡ 1 → NotedAt T R i (symbol (charactersOf text K i)) R′ → NotedAtom
+  unfolding atomIn atomOf
+  symbol-item e n = rw e (omega arith, n)
+
+  pub number-item : kind K i ≡ 2 → NotedAt T R i (number (charactersOf text K i)) R′ → NotedAtom
+  unfolding atomIn atomOf
+  number-item e n = rw e (omega arith, n)
+
+  quoted-item : kind K i ≡ 3 → NotedAt T R i (quoted (charactersOf text K i)) R′ → NotedAtom
+  unfolding atomIn atomOf
+  quoted-item e n = rw e (omega arith, n)
+
+-- A name is quoted or no operator.
+pub name-kind : {X : Type 0} {k : ℕ} → ((k ≡ 1) × X) ⊎ (k ≡ 3) → k ≤ 3
+name-kind (inl h) = omega (arith, h .0)
+name-kind (inr h) = omega arith
+
+-- So is what is noted of it.
+pub name-item :
+    (text : Bytes) (K : List ℕ) (t : E.Table) (R : List ℕ) (i : ℕ) (R′ : List ℕ) {k : ℕ} {m : Bytes}
+    → k ≡ kind K i → m ≡ charactersOf text K i
+    → ((kind K i ≡ 1) × (finds text K i (t .words) (t .count) ≡ Nothing)) ⊎ (kind K i ≡ 3)
+    → NameNoted (eqb k 3) text t m R i R′ → NotedAtom text K (tableOf text t) R i R′
+name-item text K t R i R′ {k} e d (inl h) n =
+    symbol-item text K (tableOf text t) R i R′ (h .0) (rw (ne-eqb k 3 (λ z. omega (arith, h .0)), d) at n (h .1))
+name-item text K t R i R′ {k} e d (inr h) n = quoted-item text K (tableOf text t) R i R′ h (rw (eq-eqb k 3 (e ∙ h), d) at n)

@@ -1,0 +1,288 @@
+-- One declaration at the front of a part of the row: its tokens are the first ones, so its operator's name is a part of the text, the next
+-- one begins behind the blanks behind its `;`, and the checks behind it go on there, with less fuel.
+use mathlib.Core.Path.{_≡_, refl, sym, ap, subst, _∙_}
+use mathlib.Core.Bool.{true, false}
+use mathlib.Core.List.{List, [], _∷_, _++_}
+use mathlib.Core.Option.{some}
+use Prim.Native.Nat.{ℕ, suc, _+_, _-_, _≤_, _<_}
+use native.Mathlib.Omega.{arith}
+use native.Mathlib.Numerals.{add-one}
+use lib.Dec.{leb}
+use lib.ListN.{length, drop, getD, length-append}
+use lib.Seq.{drop-at}
+use borrow.Author.Tests.{leb-true, le-leb, lt-leb}
+use Rattle.grammar.specs.Bytes.{Bytes}
+use Rattle.grammar.specs.Token.{Token, Structure, atom, structure, symbol, semicolon, keywordLet, structureNumber}
+use Rattle.grammar.specs.Outcome.{Outcome, refused, passed}
+use Rattle.grammar.specs.Scan.{Placed}
+use Rattle.grammar.specs.Answer.{offsetOf}
+use Rattle.grammar.specs.Operator.{Fixity, Prefix, Infix, Postfix, Associativity, allowed, Role, Table, declareRole, removeRoles, lawfulTable}
+use Rattle.grammar.specs.Coded.{kindOf, fixityOf, fixityCode}
+use Rattle.grammar.specs.Declaration.{
+  Declaration,
+  declares,
+  clears,
+  declare,
+  value,
+  declarationTokens,
+  isPrecedence,
+  isDeclaration,
+  unfit,
+  parsed,
+  declaration,
+  operatorPlace,
+  mostOperators,
+  widestPrecedence,
+  hasRoom,
+  checkedAt,
+  enter,
+}
+use Rattle.grammar.specs.Declaration as D
+use Rattle.grammar.proofs.Logic.{impossible, and-left, and-right}
+use Rattle.grammar.proofs.Declarations.{declaration-sound, enter-end, enter-step}
+use Rattle.grammar.proofs.EnterBehind.{enter-fuel, enter-unfit}
+use Rattle.rows.specs.Fields.{kind, start, size}
+use Rattle.rows.specs.Codes.{sideCode, roleCode, roleOf, IsRole}
+use Rattle.rows.specs.Tokens.{charactersOf, tokenIn, atomOf, atomIn, range, sizeOf, structureSize, Stored}
+use Rattle.rows.proofs.Codes.{role-code, code-role}
+use Rattle.rows.proofs.Ranges.{token-atom, length-range, range-none, range-split, range-token}
+use Rattle.rows.proofs.Stored.{stored-kind, stored-size, stored-offset, stored-next}
+use Rattle.declaration_part.specs.Parsing.{nextPlace, Parses}
+use Rattle.declaration_part.specs.declared.parse.Parsed.{Parsed}
+use Rattle.declaration_part.specs.declared.parse.Parsed.the-variants.{Unfit, Clears}
+use Rattle.declaration_part.specs.declared.parse.Parsed.the-variants as P
+
+-- A token of a text by what it is: its kind and its characters, or how many bytes it has.
+module _ {text : Bytes} {ps : List Placed} {K : List ℕ} (v : Stored text ps K) (j : ℕ) (h : j < length ps) where
+  pub symbol-kind : (m : Bytes) → tokenIn text K j ≡ atom (symbol m) → kind K j ≡ 1
+  unfolding kindOf
+  symbol-kind m e = stored-kind v j h ∙ ap kindOf e
+
+  symbol-name : (m : Bytes) → tokenIn text K j ≡ atom (symbol m) → charactersOf text K j ≡ m
+  unfolding atomIn atomOf
+  symbol-name m e =
+      let k = symbol-kind m e in
+      let a : atomIn text K j ≡ symbol (charactersOf text K j) = rw k in
+      let t : tokenIn text K j ≡ atom (atomIn text K j) = token-atom text K j (omega arith) in
+      cc
+
+  pub structure-kind : (s : Structure) → tokenIn text K j ≡ structure s → (kind K j ≡ structureNumber s) × (size K j ≡ structureSize s)
+  unfolding kindOf sizeOf
+  structure-kind s e = (stored-kind v j h ∙ ap kindOf e, stored-size v j h ∙ ap sizeOf e)
+
+  -- The next token begins behind its bytes and the blanks behind these.
+  pub begins-behind : (3 ≤ kind K j → kind K j ≤ 5 → ⊥) → {n : ℕ} → n ≡ size K j → nextPlace text (start K j) n ≡ offsetOf text ps (suc j)
+  unfolding nextPlace
+  begins-behind d e = rw e (sym (stored-next v j h d))
+
+fixity-back : (f : Fixity) → fixityOf (fixityCode f) ≡ f
+unfolding fixityOf fixityCode
+fixity-back Prefix = refl
+fixity-back Infix = refl
+fixity-back Postfix = refl
+
+-- The tokens of a declaration end with its operator and a `;`.
+nameOf : Declaration → Bytes
+nameOf (declares f a d m) = m
+nameOf (clears m) = m
+
+module _ (d : Declaration) where
+  operator-second : length (declarationTokens d) ≡ suc (suc (operatorPlace d))
+  unfolding declarationTokens operatorPlace
+  operator-second = elim d as (λ d. length (declarationTokens d) ≡ suc (suc (operatorPlace d))) [ declares f a v m ↦ refl | clears m ↦ refl ]
+
+  module _ (rest : List Token) where
+    operator-token : getD (declarationTokens d ++ rest) (operatorPlace d) (structure semicolon) ≡ atom (symbol (nameOf d))
+    unfolding declarationTokens operatorPlace nameOf
+    operator-token =
+        elim d as (λ d. getD (declarationTokens d ++ rest) (operatorPlace d) (structure semicolon) ≡ atom (symbol (nameOf d))) [
+          | declares f a v m ↦ refl
+          | clears m ↦ refl
+        ]
+
+    semicolon-token : getD (declarationTokens d ++ rest) (suc (operatorPlace d)) (structure semicolon) ≡ structure semicolon
+    unfolding declarationTokens operatorPlace
+    semicolon-token =
+        elim d as (λ d. getD (declarationTokens d ++ rest) (suc (operatorPlace d)) (structure semicolon) ≡ structure semicolon) [
+          | declares f a v m ↦ refl
+          | clears m ↦ refl
+        ]
+
+module _ (text : Bytes) (K : List ℕ) (to : ℕ) where
+  -- What the checks answer of the tokens from number `at` on, under the operators `T`.
+  abbrev pub entered : Table → ℕ → Outcome Table
+  entered T at = enter (to - at) T at (range text K at to)
+
+  entered-unfit : (T : Table) (at n : ℕ) → at < to → declaration (range text K at to) ≡ unfit n → entered T at ≡ refused 8 (at + n)
+  entered-unfit T at n h e = let l = length-range text K at to in enter-unfit (to - at) T at (range text K at to) n (omega arith) (omega arith) e
+
+  -- Behind the last token.
+  entered-end : (T : Table) (at : ℕ) → at ≡ to → entered T at ≡ checkedAt to T
+  entered-end T at h = ap (entered T) h ∙ ap (enter (to - to) T to) (range-none text K to) ∙ enter-end (to - to) T to
+
+  pub entered-lawful : (T : Table) (at : ℕ) → at ≡ to → lawfulTable T ≡ true → entered T at ≡ passed T
+  unfolding checkedAt
+  entered-lawful T at h e = entered-end T at h ∙ rw (e, checkedAt)
+
+  pub entered-unlawful : (T : Table) (at : ℕ) → at ≡ to → lawfulTable T ≡ false → entered T at ≡ refused 10 to
+  unfolding checkedAt
+  entered-unlawful T at h e = entered-end T at h ∙ rw (e, checkedAt)
+
+  -- A declaration of `n` tokens at `at`, with its operator at token `place` of it, that makes `change` of the operators in force.
+  pub record DeclarationAt (ps : List Placed) (at : ℕ) (change : Table → Table) (place n : ℕ) : Type 0 where
+    pub within : at + n ≤ to
+    pub isSymbol : kind K (at + place) ≡ 1
+    pub behind : nextPlace text (nextPlace text (start K (at + place)) (size K (at + place))) 1 ≡ offsetOf text ps (at + n)
+    pub refuses : (T : Table) → mostOperators < length (change T) → entered T at ≡ refused 9 (at + place)
+    pub passes : (T : Table) → length (change T) ≤ mostOperators → entered T at ≡ entered (change T) (at + n)
+
+  module _ (ps : List Placed) (v : Stored text ps K) (h : to < length ps) (at : ℕ) (l : at < to) where
+    module _ (d : Declaration) (rest : List Token) (e : declaration (range text K at to) ≡ parsed d rest) where
+      abbrev place : ℕ
+      place = operatorPlace d
+
+      abbrev n : ℕ
+      n = length (declarationTokens d)
+
+      tokens : range text K at to ≡ declarationTokens d ++ rest
+      tokens = declaration-sound (range text K at to) d rest e .0
+
+      within : at + n ≤ to
+      within = omega (arith, ap length tokens, length-append (declarationTokens d) rest, length-range text K at to)
+
+      rest-range : rest ≡ range text K (at + n) to
+      rest-range =
+          sym (drop-at (declarationTokens d) rest n refl)
+          ∙ ap (drop n) (sym tokens ∙ range-split text K at (at + n) to (omega arith) within)
+          ∙ drop-at (range text K at (at + n)) (range text K (at + n) to) n (omega (arith, length-range text K at (at + n)))
+
+      token-at : (j : ℕ) → at + j < to → tokenIn text K (at + j) ≡ getD (declarationTokens d ++ rest) j (structure semicolon)
+      token-at j k = sym (range-token text K at to j (structure semicolon) k) ∙ ap (λ ts. getD ts j (structure semicolon)) tokens
+
+      named : tokenIn text K (at + place) ≡ atom (symbol (nameOf d))
+      named = token-at place (omega (arith, within, operator-second d)) ∙ operator-token d rest
+
+      closed : tokenIn text K (suc (at + place)) ≡ structure semicolon
+      closed =
+          ap (tokenIn text K) (omega arith)
+          ∙ token-at (suc place) (omega (arith, within, operator-second d))
+          ∙ semicolon-token d rest
+
+      operator-name : charactersOf text K (at + place) ≡ nameOf d
+      operator-name = symbol-name v (at + place) (omega (arith, within, operator-second d)) (nameOf d) named
+
+      operator-kind : kind K (at + place) ≡ 1
+      operator-kind = symbol-kind v (at + place) (omega (arith, within, operator-second d)) (nameOf d) named
+
+      next-begins : nextPlace text (nextPlace text (start K (at + place)) (size K (at + place))) 1 ≡ offsetOf text ps (at + n)
+      unfolding structureNumber structureSize
+      next-begins =
+          let w = within in
+          let s = operator-second d in
+          let a : at + place < length ps = omega arith in
+          let b : suc (at + place) < length ps = omega arith in
+          let k = operator-kind in
+          let z = structure-kind v (suc (at + place)) b semicolon closed in
+          ap (λ p. nextPlace text p 1)
+          (begins-behind v (at + place) a (λ x y. omega arith) refl ∙ sym (stored-offset v (suc (at + place)) b (λ x. omega (arith, z .0))))
+          ∙ begins-behind v (suc (at + place)) b (λ x y. omega (arith, z .0)) (sym (z .1))
+          ∙ ap (offsetOf text ps) (omega arith)
+
+      step :
+          (T : Table) → entered T at
+          ≡ elim (hasRoom T d) [
+            | true ↦ enter (to - suc at) (declare T d) (at + n) rest
+            | false ↦ refused 9 (at + place)
+          ]
+      step T =
+          let k : to - at ≡ suc (to - suc at) = omega arith in
+          ap (λ k. enter k T at (range text K at to)) k ∙ enter-step (to - suc at) T at (range text K at to) e
+
+      further : (T : Table) → enter (to - suc at) (declare T d) (at + n) rest ≡ entered (declare T d) (at + n)
+      further T =
+          let k = length-range text K (at + n) to in
+          let s = operator-second d in
+          ap (enter (to - suc at) (declare T d) (at + n)) rest-range
+          ∙ enter-fuel (to - suc at) (to - (at + n)) (declare T d) (at + n) (range text K (at + n) to) (omega arith) (omega arith)
+
+      declaration-at : DeclarationAt ps at (λ T. declare T d) place n
+      unfolding hasRoom
+      declaration-at =
+          record {
+            within = within;
+            isSymbol = operator-kind;
+            behind = next-begins;
+            refuses = λ T g. step T ∙ rw (lt-leb _ _ g, hasRoom) refl;
+            passes = λ T g. step T ∙ rw (le-leb _ _ g, hasRoom) (further T);
+          }
+
+    -- What the code answers for it.
+    abbrev Said : Parsed → Type 0
+    Said = Parses K at (declaration (range text K at to))
+
+    pub unfit-at : (T : Table) (m : ℕ) → Said (Unfit m) → entered T at ≡ refused 8 m
+    unfit-at T m = go (declaration (range text K at to)) refl
+      where
+        go : (p : D.Parsed) → declaration (range text K at to) ≡ p → Parses K at p (Unfit m) → entered T at ≡ refused 8 m
+        go (unfit k) e s = entered-unfit T at k l e ∙ ap (refused 8) (cc)
+        go (parsed (declares f a v w) rest) e s = impossible (cc)
+        go (parsed (clears w) rest) e s = impossible (cc)
+
+    -- A role that is declared ..
+    pub record RoleAt (f code operator : ℕ) : Type 0 where
+      pub stands : operator ≡ start K (at + 3)
+      pub isRole : IsRole code × (0 < code)
+      pub declared : Role
+      pub coded : roleOf code ≡ some declared
+      pub step : DeclarationAt ps at (declareRole (charactersOf text K (at + 3)) (fixityOf f) declared) 3 5
+
+    role-of :
+        (f : Fixity) (a : Associativity) (w m : Bytes) (rest : List Token) → declaration (range text K at to) ≡ parsed (declares f a w m) rest
+        → RoleAt (fixityCode f) (sideCode a + value w) (start K (at + 3))
+    unfolding declare operatorPlace declarationTokens nameOf isDeclaration isPrecedence roleCode
+    role-of f a w m rest e =
+        let d : Declaration = declares f a w m in
+        let q : Role = record { precedence = value w; associativity = a } in
+        let p = and-right (allowed f a) _ (declaration-sound (range text K at to) d rest e .1) in
+        let low = leb-true 1 (value w) (and-left _ _ p) in
+        let high = leb-true (value w) widestPrecedence (and-right (leb 1 (value w)) _ p) in
+        let name = sym (operator-name d rest e) in
+        record {
+          stands = refl;
+          isRole = (code-role (some q) (low, high), omega arith);
+          declared = q;
+          coded = role-code (some q) (low, high);
+          step = subst (λ change. DeclarationAt ps at change 3 5) (λ i T. declareRole (name i) (sym (fixity-back f) i) q T)
+              (declaration-at d rest e);
+        }
+
+    pub role-at : (f code operator : ℕ) → Said (P.Role f code operator) → RoleAt f code operator
+    role-at f code operator = go (declaration (range text K at to)) refl
+      where
+        go : (p : D.Parsed) → declaration (range text K at to) ≡ p → Parses K at p (P.Role f code operator) → RoleAt f code operator
+        go (unfit k) e s = impossible (cc)
+        go (parsed (clears w) rest) e s = impossible (cc)
+        go (parsed (declares g a w m) rest) e s =
+            let x : fixityCode g ≡ f = cc in
+            let y : sideCode a + value w ≡ code = cc in
+            let z : start K (at + 3) ≡ operator = cc in
+            subst (λ o. RoleAt f code o) z (rw (x, y) at (role-of g a w m rest e))
+
+    -- .. and a name that is cleared.
+    pub record ClearsAt (operator : ℕ) : Type 0 where
+      pub stands : operator ≡ start K (at + 1)
+      pub step : DeclarationAt ps at (removeRoles (charactersOf text K (at + 1))) 1 3
+
+    pub clears-at : (operator : ℕ) → Said (Clears operator) → ClearsAt operator
+    unfolding declare operatorPlace declarationTokens nameOf
+    clears-at operator = go (declaration (range text K at to)) refl
+      where
+        go : (p : D.Parsed) → declaration (range text K at to) ≡ p → Parses K at p (Clears operator) → ClearsAt operator
+        go (unfit k) e s = impossible (cc)
+        go (parsed (declares g a w m) rest) e s = impossible (cc)
+        go (parsed (clears m) rest) e s =
+            let name = sym (operator-name (clears m) rest e) in
+            record {
+              stands = cc;
+              step = subst (λ change. DeclarationAt ps at change 1 3) (λ i T. removeRoles (name i) T) (declaration-at (clears m) rest e);
+            }

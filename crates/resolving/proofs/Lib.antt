@@ -1,0 +1,5 @@
+pub mod Noting
+pub mod Classes
+pub mod ItemLoop
+pub mod Declared
+pub mod DeclarationLoop

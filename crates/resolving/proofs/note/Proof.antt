@@ -1,0 +1,207 @@
+-- What the class of the token says is what is noted of it. Assumes nothing.
+use mathlib.Core.Path.{_≡_, refl, sym, _∙_}
+use Prim.Native.Nat.{_+_, _≤_}
+use native.Mathlib.Omega.{arith}
+use borrow.Author.Needs.{needs}
+use lib.ListN.{length}
+use Rattle.operators.specs.Entries.{tableBy}
+use Rattle.operators.specs.declared.table.Table.{Table}
+use Rattle.resolving.specs.declared.Class.{Class}
+use Rattle.operators.proofs.Lookups.{found-below}
+use Rattle.resolving.proofs.Noting.{words-stored, number-noted}
+use Rattle.resolving.proofs.Classes.{
+  Says,
+  found-says,
+  roles-within,
+  part-ends,
+  part-characters,
+  part-named,
+  symbol-item,
+  number-item,
+  name-kind,
+  name-item,
+}
+use Rattle.resolving.proofs.note.Statement.{statement}
+use Rattle.resolving.proofs.note.Tie as tie
+
+abbrev entry : tie.After-classify → tie.Start
+entry c = c .before .before .before .before
+
+-- What the class says.
+says :
+    (c : tie.After-classify) (x : Class) → c .classify .result ≡ x
+    → let a = entry c .args in
+    Says (a .text .now) (a .tokens .now) (a .i) (a .words .now) (a .count) x
+says c x e =
+    let p = entry c .pre .0 in
+    found-says _ _ _ _ _ (p .1 .paired) (p .2) x (sym e ∙ c .classify .ensures)
+
+abbrev operators : tie.After-classify → Table
+operators c = let a = entry c .args in tableBy (a .words .now) (a .hints .now) (a .count)
+
+classify-requires : tie.Need-classify-requires
+classify-requires c κs = search needs
+
+enum-known-entry : tie.Need-enum-known-entry
+enum-known-entry c = search needs
+
+store-operator-requires : tie.Need-store-operator-requires
+store-operator-requires c κs =
+    let n = c .before .before in
+    let d = n .before .before in
+    let e = entry d in
+    let found = says d _ (n .entry .given .1) .1 in (
+      roles-within (e .pre .0 .1) (e .pre .0 .2),
+      (_, e .args .hints .now, e .args .count, e .pre .1 .sound, found-below _ (operators d) _ found),
+    )
+
+enum-known-start : tie.Need-enum-known-start
+enum-known-start c = search needs
+
+-- A name, and where it ends in the text.
+ends :
+    (c : tie.After-start)
+    → c .start .given .0 .0 + c .start .given .0 .1 .0 ≤ length (entry (c .before .before) .args .text .now)
+ends c =
+    let d = c .before .before in
+    let p = entry d .pre .0 in
+    let s = says d _ (c .start .given .1) in
+    part-ends (p .1) (p .2) (s .0) (s .1)
+
+add-e : tie.Need-add-e
+add-e c = omega (arith, ends (c .before), entry (c .before .before .before) .pre .0 .1 .short)
+
+kind-requires : tie.Need-kind-requires
+kind-requires c κs = search needs
+
+sub-store-name : tie.Need-sub-store-name
+sub-store-name c = search needs
+
+part-store-name-start : tie.Need-part-store-name-start
+part-store-name-start c = search needs
+
+part-store-name-end : tie.Need-part-store-name-end
+part-store-name-end c = omega (arith, ends (c .before .before))
+
+store-name-requires : tie.Need-store-name-requires
+store-name-requires c κs =
+    let n = c .before .before .before .before in
+    let d = n .before .before in
+    let p = entry d .pre .0 in
+    let s = says d _ (n .start .given .1) in (
+      roles-within (p .1) (p .2),
+      entry d .pre .1 .sound,
+      part-named (p .1) (p .2) (s .0) (s .1) (name-kind (s .2)),
+    )
+
+enum-told : tie.Need-enum-told
+enum-told c = search needs
+
+store-requires : tie.Need-store-requires
+store-requires c κs = search needs
+
+enum-known-closer : tie.Need-enum-known-closer
+enum-known-closer c = search needs
+
+store-requires-2 : tie.Need-store-requires-2
+store-requires-2 c κs = search needs
+
+enum-known-closer-2 : tie.Need-enum-known-closer-2
+enum-known-closer-2 c = search needs
+
+store-requires-3 : tie.Need-store-requires-3
+store-requires-3 c κs = search needs
+
+same-length : tie.Need-same-length
+same-length c = search needs
+
+returns : tie.Need-returns
+returns c =
+    let o = c .before .before in
+    let n = o .before .before .before in
+    let d = n .before .before in
+    let e = entry d in
+    let s = says d _ (n .entry .given .1) in
+    symbol-item _ _ _ _ _ _ (s .0) (o .store-operator .ensures _ (e .args .hints .now) _ (e .pre .1 .sound) _ (s .1))
+
+same-length-2 : tie.Need-same-length-2
+same-length-2 c = search needs
+
+returns-2 : tie.Need-returns-2
+returns-2 c =
+    let o = c .before .before in
+    let k = o .before .before .before in
+    let n = k .before .before in
+    let d = n .before .before in
+    let p = entry d .pre .0 in
+    let s = says d _ (n .start .given .1) in
+    name-item _ _ (operators d) _ _ _ (k .kind .ensures) (part-characters (p .1) (p .2) (s .0) (s .1)) (s .2) (o .store-name .ensures)
+
+same-length-3 : tie.Need-same-length-3
+same-length-3 c = search needs
+
+returns-3 : tie.Need-returns-3
+returns-3 c =
+    let o = c .before .before in
+    let n = o .before .before in
+    let d = n .before .before in
+    let p = entry d .pre .0 in
+    number-item _ _ _ _ _ _ (says d _ (n .enum-told .given .1))
+    (number-noted _ _ _ _ _ (words-stored _ (roles-within (p .1) (p .2)) (o .store .ensures) refl refl refl refl))
+
+same-length-4 : tie.Need-same-length-4
+same-length-4 c = search needs
+
+returns-4 : tie.Need-returns-4
+returns-4 c =
+    let o = c .before .before in
+    let n = o .before .before .before in
+    let d = n .before .before in
+    let p = entry d .pre .0 in
+    let s = says d _ (n .closer .given .1) in
+    let w = words-stored _ (roles-within (p .1) (p .2)) (o .store2 .ensures) refl refl refl refl in
+    (s .0, s .1, w .arrives, w .kept)
+
+same-length-5 : tie.Need-same-length-5
+same-length-5 c = search needs
+
+returns-5 : tie.Need-returns-5
+returns-5 c =
+    let o = c .before .before in
+    let n = o .before .before .before in
+    let d = n .before .before in
+    let p = entry d .pre .0 in
+    let s = says d _ (n .closer2 .given .1) in
+    let w = words-stored _ (roles-within (p .1) (p .2)) (o .store3 .ensures) refl refl refl refl in
+    (s .0, s .1, w .arrives, w .kept)
+
+pub note-spec : {M : Type 1} → statement M
+note-spec =
+    tie.close
+    (tie.spec
+    classify-requires
+    enum-known-entry
+    store-operator-requires
+    enum-known-start
+    add-e
+    kind-requires
+    sub-store-name
+    part-store-name-start
+    part-store-name-end
+    store-name-requires
+    enum-told
+    store-requires
+    enum-known-closer
+    store-requires-2
+    enum-known-closer-2
+    store-requires-3
+    same-length
+    returns
+    same-length-2
+    returns-2
+    same-length-3
+    returns-3
+    same-length-4
+    returns-4
+    same-length-5
+    returns-5)

@@ -1,0 +1,34 @@
+-- The table made is that of the starting operators, which meet the conditions. Assumes nothing.
+use mathlib.Core.Path.{_≡_, ap, subst, _∙_}
+use borrow.Author.Needs.{needs}
+use Rattle.grammar.specs.Operator.{lawfulTable}
+use Rattle.grammar.specs.Declaration.{startTable}
+use Rattle.grammar.proofs.Operators.{distinct-start}
+use Rattle.grammar.proofs.ConditionsTest.{conditions-complete, conditions-start}
+use Rattle.resolving.specs.Resolving.{Resolving}
+use Rattle.resolving.proofs.resolve_text.Statement.{statement}
+use Rattle.resolving.proofs.resolve_text.Tie as tie
+
+new-requires : tie.Need-new-requires
+new-requires c κs = search needs
+
+resolve-requires : tie.Need-resolve-requires
+resolve-requires c κs =
+    let n = c .before .before .before .before in
+    let (sound, table) = n .new .ensures _ in
+    (n .before .before .before .before .pre, record { sound = sound; lawful = ap lawfulTable table ∙ conditions-complete startTable distinct-start conditions-start })
+
+same-length : tie.Need-same-length
+same-length c = search needs
+
+returns : tie.Need-returns
+returns c =
+    let r = c .before .before in
+    let n = r .before .before .before .before .before in
+    let a = n .before .before .before .before .args in
+    subst
+    (λ T. Resolving (a .text .now) (a .tokens .now) T 0 (a .count) (a .roles .now) (r .resolve .last .1 .1 .1 .1 .1 .1 .1 .0) (r .resolve .result))
+    (n .new .ensures _ .1) (r .resolve .ensures)
+
+pub resolve-text-spec : {M : Type 1} → statement M
+resolve-text-spec = tie.close (tie.spec new-requires resolve-requires same-length returns)

@@ -1,0 +1,150 @@
+-- Refusals 8 to 10 over all blocks, and the roles in force of each item.
+use mathlib.Core.Path.{_≡_}
+use mathlib.Core.Bool.{Bool, true, false}
+use mathlib.Core.Logic.{_⊎_}
+use mathlib.Core.List.{List}
+use Prim.Native.Nat.{ℕ, suc, _+_, _-_, _≤_, _<_}
+use lib.Dec.{eqb, leb}
+use lib.ListN.{length}
+use Rattle.grammar.specs.Fault.{longestText}
+use Rattle.grammar.specs.Bytes.{Bytes}
+use Rattle.grammar.specs.Token.{Token, Atom, symbol, quoted}
+use Rattle.grammar.specs.Outcome.{Outcome, refused, passed, andThen}
+use Rattle.grammar.specs.Scan.{Placed}
+use Rattle.grammar.specs.Operator.{Table, removeRoles, lawfulTable}
+use Rattle.grammar.specs.Declaration.{mostOperators, enter, declarations, allTokens}
+use Rattle.grammar.specs.Blocks.{bodyTable, checkBlocks}
+use Rattle.rows.specs.Fields.{field, store, kind, start, size, closer, arrival, Holds}
+use Rattle.rows.specs.Codes.{Bounded}
+use Rattle.rows.specs.Tokens.{charactersOf, atomIn, range, IsAtomKind, IsQuietKind, Paired, Stored}
+use Rattle.rows.specs.Agreeing.{Noted, Agrees}
+use Rattle.operators.specs.Entries.{codedFind, tableBy, tableOf, Sound}
+use Rattle.operators.specs.declared.table.Found.{Found}
+use Rattle.operators.specs.declared.table.Found.the-variants.{At, Nothing}
+use Rattle.operators.specs.declared.table.Table as E
+use Rattle.resolving.specs.declared.Class.{Class}
+use Rattle.resolving.specs.declared.Class.the-variants.{Name, Number, Operator, Bracket, Block}
+use Rattle.resolving.specs.declared.Item.{Item}
+use Rattle.resolving.specs.declared.Item.the-variants.{Atom as OneAtom, Bracket as Bracketed, Block as Blocked}
+use Rattle.resolving.specs.declared.Resolved.{Resolved}
+use Rattle.resolving.specs.declared.Resolved.the-variants.{Passed, Refused}
+
+-- The `end` of the block whose `let` is token number `i`.
+abbrev pub endOf : List ℕ → ℕ → ℕ
+endOf K i = closer K (closer K i)
+
+-- The class of the first token of an item by its kind: of a symbol, by whether its name is that of an operator.
+unfoldable pub foundClass : ℕ → ℕ → Found → Class
+foundClass at n (At i) = Operator i
+foundClass at n Nothing = Name at n
+
+unfoldable pub codedClass : Bytes → List ℕ → ℕ → List ℕ → ℕ → Class
+codedClass text K i W count =
+    elim (eqb (kind K i) 1) [
+      | true ↦ foundClass (start K i) (size K i) (codedFind text W (charactersOf text K i) 0 count)
+      | false ↦
+          elim (eqb (kind K i) 2) [
+            | true ↦ Number
+            | false ↦
+                elim (eqb (kind K i) 4) [
+                  | true ↦ Bracket (closer K i)
+                  | false ↦
+                      elim (eqb (kind K i) 7) [ true ↦ Block (endOf K i) | false ↦ Name (start K i) (size K i) ]
+                ]
+          ]
+    ]
+
+-- The tokens of the text, paired from `from` to `to`, with a row for their roles.
+pub record Ranged (text : Bytes) (K R : List ℕ) (from to : ℕ) : Type 0 where
+  pub placed : List Placed
+  pub stored : Stored text placed K
+  pub short : length text ≤ longestText
+  pub within : to ≤ length placed
+  pub tokens : Holds 4 K (length placed)
+  pub roles : Holds 4 R (length placed)
+  pub paired : Paired K from to
+
+-- A table that meets the four conditions.
+pub record Lawful (text : Bytes) (t : E.Table) : Type 0 where
+  pub sound : Sound text t
+  pub lawful : lawfulTable (tableOf text t) ≡ true
+
+-- What it answers: 01's number and the token of a refusal; or that it passed, and the row has the roles.
+abbrev pub Resolves : Bytes → List ℕ → List ℕ → Table → ℕ → ℕ → Outcome (Unit {0}) → Resolved → Type 0
+Resolves text K R T from to (refused n p) r = r ≡ Refused n p
+Resolves text K R T from to (passed u) r = (r ≡ Passed) × Agrees text K R T from to
+
+-- The entries of the row outside `from` to `to` are as they were.
+pub record KeptOutside (R : List ℕ) (from to : ℕ) (R′ : List ℕ) : Type 0 where
+  pub long : length R′ ≡ length R
+  pub same : (k j : ℕ) → k < 4 → (j < from) ⊎ (to ≤ j) → field 4 k R′ j ≡ field 4 k R j
+
+-- The row with the four words of token `i`.
+abbrev pub withWords : List ℕ → ℕ → ℕ → ℕ → ℕ → ℕ → List ℕ
+withWords R i p q s a = store 4 3 (store 4 2 (store 4 1 (store 4 0 R i p) i q) i s) i a
+
+-- The row has what is noted of an atom at token `i`, and is otherwise as it was.
+pub record NotedAt (T : Table) (R : List ℕ) (i : ℕ) (a : Atom) (R′ : List ℕ) : Type 0 where
+  pub noted : Noted T R′ i a
+  pub kept : KeptOutside R i (suc i) R′
+
+-- So of the operator of an entry, by whatever name it is found, ..
+abbrev pub OperatorNoted : List ℕ → ℕ → List ℕ → ℕ → List ℕ → Type 0
+OperatorNoted W k R i R′ =
+    (text H : List ℕ) (count : ℕ) → Sound text (tableBy W H count) → (name : Bytes) → codedFind text W name 0 count ≡ At k
+    → NotedAt (tableOf text (tableBy W H count)) R i (symbol name) R′
+
+-- .. and of a name: a quoted one, or one that is no operator.
+abbrev pub NameNoted : Bool → Bytes → E.Table → Bytes → List ℕ → ℕ → List ℕ → Type 0
+NameNoted true text t name R i R′ = NotedAt (tableOf text t) R i (quoted name) R′
+NameNoted false text t name R i R′ =
+    codedFind text (t .words) name 0 (t .count) ≡ Nothing → NotedAt (tableOf text t) R i (symbol name) R′
+
+-- What an item is by its first token, and what is noted of it: a bracket pair or block is no operator.
+abbrev pub Notes : Bytes → List ℕ → Table → List ℕ → ℕ → List ℕ → Item → Type 0
+Notes text K T R i R′ OneAtom = IsAtomKind (kind K i) × NotedAt T R i (atomIn text K i) R′
+Notes text K T R i R′ (Bracketed c) = (kind K i ≡ 4) × (closer K i ≡ c) × (arrival R′ i ≡ 0) × KeptOutside R i (suc i) R′
+Notes text K T R i R′ (Blocked e) = (kind K i ≡ 7) × (endOf K i ≡ e) × (arrival R′ i ≡ 0) × KeptOutside R i (suc i) R′
+
+-- That, of the tokens from `from` to `to`, whatever the fuel that is more than they are.
+pub record Resolving (text : Bytes) (K : List ℕ) (T : Table) (from to : ℕ) (R R′ : List ℕ) (r : Resolved) : Type 0 where
+  pub answer : (k : ℕ) → to - from < k → Resolves text K R′ T from to (checkBlocks k T from (range text K from to)) r
+  pub kept : KeptOutside R from to R′
+
+-- Whether a name that was looked for is new, and whether there is no room for it.
+unfoldable pub isNew : Found → Bool
+isNew (At i) = false
+isNew Nothing = true
+
+unfoldable pub isFull : ℕ → Found → Bool
+isFull count (At i) = false
+isFull count Nothing = leb mostOperators count
+
+-- All roles of a name are removed.
+pub record Without (text : Bytes) (t : E.Table) (name : Bytes) (u : E.Table) : Type 0 where
+  pub sound : Sound text u
+  pub table : tableOf text u ≡ removeRoles name (tableOf text t)
+
+-- A block with `let` at `i`, `in` at `c` and `end` at `e`.
+pub record BlockAt (K : List ℕ) (i c e : ℕ) : Type 0 where
+  pub isLet : kind K i ≡ 7
+  pub isIn : kind K c ≡ 8
+  pub isEnd : kind K e ≡ 9
+  pub before : i < c
+  pub between : c < e
+  pub quiet : (j : ℕ) → i < j → j < c → IsQuietKind (kind K j)
+
+-- What a block's declarations and its body answer.
+abbrev pub BlockResolves : Bytes → List ℕ → List ℕ → Table → ℕ → ℕ → ℕ → Outcome (Unit {0}) → Resolved → Type 0
+BlockResolves text K R T i c e (refused n p) r = r ≡ Refused n p
+BlockResolves text K R T i c e (passed u) r =
+    let ds = range text K (suc i) c in
+    (r ≡ Passed) × (allTokens (declarations ds) ≡ ds) × Bounded (bodyTable T ds) × Agrees text K R (bodyTable T ds) (suc c) e
+
+pub record BlockResolving (text : Bytes) (K : List ℕ) (T : Table) (i c e : ℕ) (R R′ : List ℕ) (r : Resolved) : Type 0 where
+  pub answer :
+      (k : ℕ) → e - suc c < k
+      → BlockResolves text K R′ T i c e
+      (andThen (enter (length (range text K (suc i) c)) T (suc i) (range text K (suc i) c)) (λ U. checkBlocks k U (suc c) (range text K (suc c) e)))
+      r
+  pub kept : KeptOutside R (suc c) e R′

@@ -1,0 +1,52 @@
+-- The number of an operator's role by the operands that it has, case by case. Where the row of roles has the roles in force, it is that
+-- of the role in which the operator stands over its operands.
+use mathlib.Core.Path.{_≡_, _∙_}
+use mathlib.Core.Bool.{Bool, true, false, not}
+use mathlib.Core.List.{List}
+use Prim.Native.Nat.{ℕ}
+use lib.Dec.{eqb}
+use borrow.Author.Tests.{eq-eqb, ne-eqb, eqb-true, eqb-false}
+use Rattle.grammar.specs.Bytes.{Bytes}
+use Rattle.grammar.specs.Token.{symbol}
+use Rattle.grammar.specs.Operator.{Table}
+use Rattle.grammar.specs.SpanTree.{fixityBy, roleOfFixity}
+use Rattle.rows.specs.Fields.{prefix, infixed, postfix, arrival, left, right}
+use Rattle.rows.specs.Codes.{roleCode}
+use Rattle.rows.specs.Agreeing.{rolesFor, Noted}
+use Rattle.rows.specs.InUse.{roleBeside, roleInUse}
+
+module _ (R : List ℕ) (i l r : ℕ) where
+  pub beside-none : l ≡ 0 → r ≡ 0 → roleBeside R i l r ≡ 0
+  unfolding roleBeside
+  beside-none e f = rw (eq-eqb l 0 e, eq-eqb r 0 f, roleBeside)
+
+  pub beside-prefix : l ≡ 0 → (r ≡ 0 → ⊥) → roleBeside R i l r ≡ prefix R i
+  unfolding roleBeside
+  beside-prefix e f = rw (eq-eqb l 0 e, ne-eqb r 0 f, roleBeside)
+
+  pub beside-postfix : (l ≡ 0 → ⊥) → r ≡ 0 → roleBeside R i l r ≡ postfix R i
+  unfolding roleBeside
+  beside-postfix e f = rw (ne-eqb l 0 e, eq-eqb r 0 f, roleBeside)
+
+  pub beside-infix : (l ≡ 0 → ⊥) → (r ≡ 0 → ⊥) → roleBeside R i l r ≡ infixed R i
+  unfolding roleBeside
+  beside-infix e f = rw (ne-eqb l 0 e, ne-eqb r 0 f, roleBeside)
+
+module _ (R O : List ℕ) (i : ℕ) where
+  pub use-none : arrival R i ≡ 0 → roleInUse R O i ≡ 0
+  unfolding roleInUse
+  use-none e = rw (eq-eqb (arrival R i) 0 e, roleInUse)
+
+  pub use-beside : (arrival R i ≡ 0 → ⊥) → roleInUse R O i ≡ roleBeside R i (left O i) (right O i)
+  unfolding roleInUse
+  use-beside d = rw (ne-eqb (arrival R i) 0 d, roleInUse)
+
+-- With the roles in force in the row: `p` and `q` say whether there is an operand on the left and on the right.
+pub beside-code :
+    (T : Table) (R : List ℕ) (i : ℕ) (m : Bytes) → Noted T R i (symbol m) → (l r : ℕ) (p q : Bool) → eqb l 0 ≡ not p → eqb r 0 ≡ not q
+    → roleBeside R i l r ≡ roleCode (roleOfFixity T m (fixityBy p q))
+unfolding rolesFor roleOfFixity fixityBy roleCode
+beside-code T R i m n l r true true e f = beside-infix R i l r (eqb-false l 0 e) (eqb-false r 0 f) ∙ n .between
+beside-code T R i m n l r true false e f = beside-postfix R i l r (eqb-false l 0 e) (eqb-true r 0 f) ∙ n .postfixed
+beside-code T R i m n l r false true e f = beside-prefix R i l r (eqb-true l 0 e) (eqb-false r 0 f) ∙ n .prefixed
+beside-code T R i m n l r false false e f = beside-none R i l r (eqb-true l 0 e) (eqb-true r 0 f)

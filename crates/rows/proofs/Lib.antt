@@ -1,0 +1,12 @@
+pub mod Codes
+pub mod Fields
+pub mod Ranges
+pub mod PairedItems
+pub mod PairedCases
+pub mod TokenBytes
+pub mod Stored
+pub mod AtomRoles
+pub mod InUse
+pub mod Standing
+pub mod TreeTokens
+pub mod Bounded

@@ -1,0 +1,7 @@
+pub mod Fields
+pub mod Codes
+pub mod InUse
+pub mod Tokens
+pub mod Agreeing
+pub mod Standing
+pub mod Reading

@@ -1,0 +1,49 @@
+-- Where a tree stands in the rows: its first token has number `i`.
+use mathlib.Core.Path.{_≡_}
+use mathlib.Core.Bool.{true, _||_}
+use mathlib.Core.List.{List}
+use Prim.Native.Nat.{ℕ, suc, _+_}
+use lib.ListN.{length}
+use Rattle.grammar.specs.Token.{atom, symbol, number, quoted, characters}
+use Rattle.grammar.specs.Declaration.{allTokens}
+use Rattle.grammar.specs.SpanTree.{present}
+use Rattle.grammar.specs.Tree.{Tree, nothing, leaf, bracket, block, node, flat, spanTree}
+use Rattle.grammar.specs.Nodes.{charactersOffset}
+use Rattle.grammar.specs.Coded.{kindOf}
+use Rattle.rows.specs.Fields.{kind, start, size, closer, left, right}
+
+-- One more than the number of the token that is the tree's root; 0 for no tree.
+unfoldable pub mark : ℕ → Tree → ℕ
+mark i nothing = 0
+mark i (leaf a) = suc i
+mark i (bracket t) = suc i
+mark i (block ds t) = suc i
+mark i (node l m r) = suc (i + length (flat l))
+
+-- The row of roots has the roots of all parts of the tree: of an operator those of its operands; of `(` and `in` on the left that of the
+-- span that it opens.
+abbrev pub Rooted : List ℕ → ℕ → Tree → Type 0
+Rooted O i nothing = Unit {0}
+Rooted O i (leaf a) = (left O i ≡ 0) × (right O i ≡ 0)
+Rooted O i (bracket t) = (left O i ≡ mark (suc i) t) × Rooted O (suc i) t
+Rooted O i (block ds t) =
+    let c = suc (i + length (allTokens ds)) in (left O c ≡ mark (suc c) t) × Rooted O (suc c) t
+Rooted O i (node l m r) =
+    let a = i + length (flat l) in (left O a ≡ mark i l) × (right O a ≡ mark (suc a) r) × Rooted O i l × Rooted O (suc a) r
+
+-- The row of tokens has the tree's tokens; `places` gives the offset of each. Every bracket pair and block holds something, and every
+-- operator has an operand.
+abbrev pub Tokened : (ℕ → ℕ) → List ℕ → ℕ → Tree → Type 0
+Tokened places K i nothing = Unit {0}
+Tokened places K i (leaf a) =
+    (kind K i ≡ kindOf (atom a)) × (start K i ≡ charactersOffset a (places i)) × (size K i ≡ length (characters a))
+Tokened places K i (bracket t) =
+    (kind K i ≡ 4) × (closer K i ≡ suc (i + length (flat t))) × (present (spanTree t) ≡ true) × Tokened places K (suc i) t
+Tokened places K i (block ds t) =
+    let c = suc (i + length (allTokens ds)) in
+    (kind K i ≡ 7) × (start K i ≡ places i) × (closer K i ≡ c) × (start K c ≡ places c) × (closer K c ≡ suc (c + length (flat t)))
+    × (present (spanTree t) ≡ true) × Tokened places K (suc c) t
+Tokened places K i (node l m r) =
+    let a = i + length (flat l) in
+    (kind K a ≡ 1) × (start K a ≡ places a) × (size K a ≡ length m) × (present (spanTree l) || present (spanTree r) ≡ true)
+    × Tokened places K i l × Tokened places K (suc a) r

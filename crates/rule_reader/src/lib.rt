@@ -1,0 +1,19 @@
+// The services for C and Rust programs: `rt staticlib rule_reader` writes them into one archive.
+use reader::Answer;
+ghost use Rattle.reader.specs.Answered.{Reads, Canonicalizes};
+
+// Reads a text into a lent node table; `reader::read` under a name for C.
+#[no_mangle]
+pub extern "C" fn rule_read(text: &[u8], nodes: &mut [u32]) -> Answer
+    ensures { λ r. ⌜ Reads (now (text .entry)) (now (nodes .entry)) (now (nodes .exit)) r ⌝ }
+{
+    reader::read(text, nodes)
+}
+
+// Writes the canonical text of a text into a lent buffer; `reader::canonicalize` under a name for C.
+#[no_mangle]
+pub extern "C" fn rule_canonicalize(text: &[u8], buffer: &mut [u8]) -> Answer
+    ensures { λ r. ⌜ Canonicalizes (now (text .entry)) (now (buffer .entry)) (now (buffer .exit)) r ⌝ }
+{
+    reader::canonicalize(text, buffer)
+}

@@ -1,0 +1,7 @@
+pub mod Intervals
+pub mod Table
+pub mod TestedClasses
+pub mod TokenAtFront
+pub mod ScanSteps
+pub mod StoredToken
+pub mod ScannedTo

@@ -1,0 +1,76 @@
+-- The loop's invariant: what has been passed and the run from `i` on are the run from `at` on. Assumes nothing.
+use mathlib.Core.Path.{_≡_}
+use Prim.Native.Nat.{_+_, _-_}
+use native.Mathlib.Omega.{arith}
+use borrow.Author.Needs.{needs}
+use lib.ListN.{length, drop}
+use Rattle.grammar.specs.Scan.{run}
+use Rattle.byte_strings.proofs.Suffixes.{run-step, run-stop, run-end}
+use Rattle.scanner.specs.Classes.{inClass}
+use Rattle.scanner.proofs.TestedClasses.{in-class, not-in-class}
+use Rattle.scanner.proofs.runs.run_end.Statement.{statement}
+use Rattle.scanner.proofs.runs.run_end.Tie as tie
+
+abbrev Inv-loop : tie.InvT-loop
+Inv-loop table text at class i₀ i = at + run (inClass class) (drop at text) ≡ i + run (inClass class) (drop i text)
+
+abbrev μ-loop : tie.MeasureT-loop
+μ-loop table text at class i₀ i = length text - i
+
+loop-holds : tie.Need-loop-holds Inv-loop μ-loop
+loop-holds c = omega arith
+
+shared-slice-read-if1 : tie.Need-shared-slice-read-if1 Inv-loop μ-loop
+shared-slice-read-if1 c = search needs
+
+cast-if1 : tie.Need-cast-if1 Inv-loop μ-loop
+cast-if1 c = omega (arith, c .shared-slice-known .given (c .before .before .loop .i))
+
+element-copy-out-if1 : tie.Need-element-copy-out-if1 Inv-loop μ-loop
+element-copy-out-if1 c = omega (arith, c .shared-slice-known .given (c .before .before .loop .i))
+
+returns : tie.Need-returns Inv-loop μ-loop
+returns c =
+    let k = c .before .before in
+    let l = k .before .before in
+    let a = l .before .args in
+    let b = k .shared-slice-known .given (l .loop .i) .fits in
+    let e = not-in-class (a .table .now) (l .before .pre) _ b (c .if1 .taken) in
+    omega (arith, run-stop (inClass (a .class)) (a .text .now) (l .loop .i) (omega arith) e)
+
+add-i : tie.Need-add-i Inv-loop μ-loop
+add-i c = search needs
+
+loop-less : tie.Need-loop-less Inv-loop μ-loop
+loop-less c = search needs
+
+loop-again : tie.Need-loop-again Inv-loop μ-loop
+loop-again c =
+    let k = c .before .before in
+    let l = k .before .before in
+    let a = l .before .args in
+    let b = k .shared-slice-known .given (l .loop .i) .fits in
+    let e = in-class (a .table .now) (l .before .pre) _ b (c .if1 .left) in
+    omega (arith, run-step (inClass (a .class)) (a .text .now) (l .loop .i) (omega arith) e)
+
+returns-2 : tie.Need-returns-2 Inv-loop μ-loop
+returns-2 c =
+    let l = c .before in
+    let a = l .before .args in
+    omega (arith, run-end (inClass (a .class)) (a .text .now) (l .loop .i) (omega arith))
+
+pub run-end-spec : {M : Type 1} → statement M
+run-end-spec =
+    tie.close
+    (tie.spec
+    Inv-loop
+    μ-loop
+    loop-holds
+    shared-slice-read-if1
+    cast-if1
+    element-copy-out-if1
+    returns
+    add-i
+    loop-less
+    loop-again
+    returns-2)

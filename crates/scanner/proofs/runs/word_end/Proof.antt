@@ -1,0 +1,83 @@
+-- The loop's invariant: what has been passed and the bytes of a word from `i` on are those from `at` on. Assumes nothing.
+use mathlib.Core.Path.{_≡_}
+use Prim.Native.Nat.{_+_, _-_}
+use native.Mathlib.Omega.{arith}
+use borrow.Author.Needs.{needs}
+use lib.ListN.{length, drop}
+use Rattle.grammar.specs.Token.{inWord}
+use Rattle.grammar.specs.Scan.{run}
+use Rattle.byte_strings.proofs.Suffixes.{run-step, run-stop, run-end}
+use Rattle.scanner.proofs.TestedClasses.{in-word, before-word, behind-word}
+use Rattle.scanner.proofs.runs.word_end.Statement.{statement}
+use Rattle.scanner.proofs.runs.word_end.Tie as tie
+
+abbrev Inv-loop : tie.InvT-loop
+Inv-loop table text at i₀ i = at + run inWord (drop at text) ≡ i + run inWord (drop i text)
+
+abbrev μ-loop : tie.MeasureT-loop
+μ-loop table text at i₀ i = length text - i
+
+loop-holds : tie.Need-loop-holds Inv-loop μ-loop
+loop-holds c = omega arith
+
+shared-slice-read-c : tie.Need-shared-slice-read-c Inv-loop μ-loop
+shared-slice-read-c c = search needs
+
+cast-c : tie.Need-cast-c Inv-loop μ-loop
+cast-c c = omega (arith, c .shared-slice-known .given (c .before .before .loop .i))
+
+element-copy-out-c : tie.Need-element-copy-out-c Inv-loop μ-loop
+element-copy-out-c c = omega (arith, c .shared-slice-known .given (c .before .before .loop .i))
+
+returns : tie.Need-returns Inv-loop μ-loop
+returns c =
+    let k = c .before .before in
+    let l = k .before .before in
+    let a = l .before .args in
+    let b = k .shared-slice-known .given (l .loop .i) .fits in
+    let e = before-word (a .table .now) (l .before .pre) _ b (c .if1 .taken) in
+    omega (arith, run-stop inWord (a .text .now) (l .loop .i) (omega arith) e)
+
+returns-2 : tie.Need-returns-2 Inv-loop μ-loop
+returns-2 c =
+    let k = c .before .before .before in
+    let l = k .before .before in
+    let a = l .before .args in
+    let b = k .shared-slice-known .given (l .loop .i) .fits in
+    let e = behind-word (a .table .now) (l .before .pre) _ b (c .if2 .taken) in
+    omega (arith, run-stop inWord (a .text .now) (l .loop .i) (omega arith) e)
+
+add-i : tie.Need-add-i Inv-loop μ-loop
+add-i c = search needs
+
+loop-less : tie.Need-loop-less Inv-loop μ-loop
+loop-less c = search needs
+
+loop-again : tie.Need-loop-again Inv-loop μ-loop
+loop-again c =
+    let k = c .before .before .before in
+    let l = k .before .before in
+    let a = l .before .args in
+    let b = k .shared-slice-known .given (l .loop .i) .fits in
+    let e = in-word (a .table .now) (l .before .pre) _ b (c .before .if1 .left) (c .if2 .left) in
+    omega (arith, run-step inWord (a .text .now) (l .loop .i) (omega arith) e)
+
+returns-3 : tie.Need-returns-3 Inv-loop μ-loop
+returns-3 c = let l = c .before in omega (arith, run-end inWord (l .before .args .text .now) (l .loop .i) (omega arith))
+
+pub word-end-spec : {M : Type 1} → statement M
+word-end-spec =
+    tie.close
+    (tie.spec
+    Inv-loop
+    μ-loop
+    loop-holds
+    shared-slice-read-c
+    cast-c
+    element-copy-out-c
+    returns
+    returns-2
+    add-i
+    loop-less
+    loop-again
+    returns-3)

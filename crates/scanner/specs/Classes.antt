@@ -1,0 +1,15 @@
+-- The table of byte classes, and runs of bytes.
+use mathlib.Core.Path.{_≡_}
+use mathlib.Core.Bool.{Bool}
+use mathlib.Core.List.{List}
+use Prim.Native.Nat.{ℕ, _<_}
+use lib.Dec.{eqb}
+use lib.ListN.{getD}
+use Rattle.grammar.specs.Token.{class}
+
+-- Entry `b` is the class of the byte `b`.
+abbrev pub IsTable : List ℕ → Type 0
+IsTable C = (b : ℕ) → b < 256 → getD C b 0 ≡ class b
+
+unfoldable pub inClass : ℕ → ℕ → Bool
+inClass c b = eqb (class b) c

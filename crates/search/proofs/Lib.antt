@@ -1,9 +1,0 @@
-pub mod Roles
-pub mod Ranges
-pub mod Found
-pub mod Roots
-pub mod SlotTrees
-pub mod PartRanges
-pub mod ItemSlots
-pub mod ItemRoots
-pub mod Bridge

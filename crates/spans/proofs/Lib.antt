@@ -1,4 +1,0 @@
-pub mod Openers
-pub mod Agreed
-pub mod SpanChecks
-pub mod Roots

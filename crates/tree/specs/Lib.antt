@@ -1,3 +1,0 @@
-pub mod Built
-pub mod Building
-pub mod Agreeing

@@ -1,2 +1,0 @@
-// The node table of a text whose spans have trees.
-pub mod build;
