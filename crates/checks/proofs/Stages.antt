@@ -20,7 +20,7 @@ use Rattle.grammar.proofs.Scanned.{length-tokens}
 use Rattle.grammar.proofs.Logic.{impossible}
 use Rattle.grammar.proofs.RefusalPlaces.{nesting-place, blocks-place}
 use Rattle.rows.specs.Fields.{kind, start, size, Holds}
-use Rattle.rows.specs.Tokens.{range, tokenIn, IsAtomKind, Stored}
+use Rattle.rows.specs.Tokens.{range, tokenIn, IsAtomKind, Unblocked, Stored}
 use Rattle.rows.proofs.TokenBytes.{token-bytes}
 use Rattle.rows.proofs.Stored.{
   stored-few,
@@ -159,15 +159,15 @@ module _ {text : Bytes} {K R O : List ℕ} {n : ℕ} (t : Tokenized text K R O n
       (λ m. let e : i ≡ length (t .placed) = omega (arith, t .counted) in offset-end text K n i m ∙ rw e (sym (stored-end (t .stored))))
 
 -- Checks 6 and 7.
-nest-refused : (o : Outcome (Unit {0})) (k i : ℕ) → codedNesting o ≡ Pair.Refused k i → o ≡ refused k i
+nest-refused : (b : Bool) (o : Outcome (Unit {0})) (k i : ℕ) → codedNesting b o ≡ Pair.Refused k i → o ≡ refused k i
 unfolding codedNesting
-nest-refused (refused m q) k i e = cc
-nest-refused (passed u) k i e = impossible cc
+nest-refused b (refused m q) k i e = cc
+nest-refused b (passed u) k i e = impossible cc
 
-nest-passed : (o : Outcome (Unit {0})) → codedNesting o ≡ Pair.Passed → o ≡ passed tt
+nest-passed : (b : Bool) (o : Outcome (Unit {0})) (c : Bool) → codedNesting b o ≡ Pair.Passed c → o ≡ passed tt
 unfolding codedNesting
-nest-passed (refused m q) e = impossible cc
-nest-passed (passed u) e = refl
+nest-passed b (refused m q) c e = impossible cc
+nest-passed b (passed u) c e = refl
 
 module _ {text : Bytes} {K R O : List ℕ} {n : ℕ} (t : Tokenized text K R O n) where
   nested-reads : {k i : ℕ} → nesting [] 0 (tokensOf (t .placed)) ≡ refused k i → readText text ≡ refused k (offsetOf text (t .placed) i)
@@ -199,31 +199,35 @@ module _ {text : Bytes} {K R O : List ℕ} {n : ℕ} (t : Tokenized text K R O n
     pub not-matched : (A B : List ℕ) (k i : ℕ) → r ≡ Pair.Refused k i → Checking text K′ A B (Refused k (offsetIn text K′ n i))
     unfolding still-tokens
     not-matched A B k i e =
-        let p = sym by-kinds ∙ nest-refused _ k i (sym (h .answer) ∙ e) in
+        let p = sym by-kinds ∙ nest-refused _ _ k i (sym (h .answer .1) ∙ e) in
         let l = nesting-place (tokensOf (t .placed)) k i p in
         let o = offset-in still-tokens i (omega (arith, t .counted, length-tokens (t .placed))) in
         refusal text K′ A B k (offsetIn text K′ n i) (nested-reads p ∙ ap (refused k) (sym o))
 
-    pub matched : r ≡ Pair.Passed → Matched text K′ R O n true
+    pub matched : (blocks : Bool) → r ≡ Pair.Passed blocks → Matched text K′ R O n true × (blocks ≡ false → Unblocked K′ n)
     unfolding still-tokens
-    matched e =
-        record {
-          scanned = still-tokens;
-          nests = sym by-kinds ∙ nest-passed _ (sym (h .answer) ∙ e);
-          paired = h .closed e;
-          flat = λ z. impossible cc;
-        }
+    matched blocks e = (
+      record {
+        scanned = still-tokens;
+        nests = sym by-kinds ∙ nest-passed _ _ blocks (sym (h .answer .1) ∙ e);
+        paired = h .closed blocks e;
+        flat = λ z. impossible cc;
+      },
+      λ z j l k. h .unblocked (e ∙ ap Pair.Passed z) j l (sym (h .kept 0 (omega arith) j) ∙ k),
+    )
 
   -- Without tokens of structure there is nothing to pair.
-  pub flat-matched : (nested : Bool) → ((j : ℕ) → j < n → kind K j ≤ 3) → Matched text K R O n nested
+  pub flat-matched : (nested : Bool) → ((j : ℕ) → j < n → kind K j ≤ 3) → Matched text K R O n nested × Unblocked K n
   flat-matched nested f =
-      let a : (j : ℕ) → j < n → IsAtomKind (kind K j) = λ j l. (stored-kinds (t .stored) j (omega (arith, t .counted)) .0, f j l) in
-      record {
-        scanned = t;
-        nests = sym by-kinds ∙ paired-atoms K n a .1;
-        paired = paired-atoms K n a .0;
-        flat = λ z. f;
-      }
+      let a : (j : ℕ) → j < n → IsAtomKind (kind K j) = λ j l. (stored-kinds (t .stored) j (omega (arith, t .counted)) .0, f j l) in (
+        record {
+          scanned = t;
+          nests = sym by-kinds ∙ paired-atoms K n a .1;
+          paired = paired-atoms K n a .0;
+          flat = λ z. f;
+        },
+        λ j l k. let b = f j l in omega arith,
+      )
 
 -- Checks 8 to 10.
 module _ {text : Bytes} {K R O : List ℕ} {n : ℕ} {nested : Bool} (m : Matched text K R O n nested) where

@@ -9,8 +9,10 @@ use scanner::classes;
 use scanner::scan;
 use scanner::scan::Scanned;
 ghost use mathlib.Core.Path.{_≡_};
+ghost use mathlib.Core.Bool.{false};
 ghost use mathlib.Core.List.{List};
 ghost use Prim.Native.Nat.{ℕ};
+ghost use Rattle.rows.specs.Tokens.{Unblocked};
 ghost use Rattle.checks.specs.Checking.{Checkable, Tokenized, Matched, Classified, offsetIn, Checking};
 
 // Refusal 11.
@@ -78,13 +80,14 @@ fn check_blocks(
     tokens: &[u16],
     count: usize,
     nested: bool,
+    blocks: bool,
     roles: &mut [u16],
     roots: &mut [u16],
 ) -> Checked
-    requires { ⌜ Matched (now text) (now tokens) (now roles) (now roots) count nested ⌝ }
+    requires { ⌜ Matched (now text) (now tokens) (now roles) (now roots) count nested × (blocks ≡ false → Unblocked (now tokens) count) ⌝ }
     ensures { λ r. ⌜ Checking (now (text .entry)) (now (tokens .entry)) (now (roles .exit)) (now (roots .exit)) r ⌝ }
 {
-    match resolving::resolve_text(text, tokens, count, roles) {
+    match resolving::resolve_text(text, tokens, count, blocks, roles) {
         Resolved::Refused { number, at } => Checked::Refused {
             number,
             offset: offset_of(text, tokens, count, at),
@@ -109,7 +112,7 @@ fn check_tokens(
             number,
             offset: offset_of(text, tokens, count, at),
         },
-        Paired::Passed => check_blocks(text, tokens, count, true, roles, roots),
+        Paired::Passed { blocks } => check_blocks(text, tokens, count, true, blocks, roles, roots),
     }
 }
 
@@ -125,7 +128,7 @@ pub fn check(text: &[u8], tokens: &mut [u16], roles: &mut [u16], roots: &mut [u1
             if nested {
                 return check_tokens(text, tokens, count, roles, roots);
             }
-            check_blocks(text, tokens, count, nested, roles, roots)
+            check_blocks(text, tokens, count, nested, false, roles, roots)
         }
     }
 }

@@ -75,21 +75,21 @@ module _
         let i : j * 5 + l + 5 ≡ suc j * 5 + l = omega arith in
         words .moved (j * 5 + l) (omega arith) (omega arith) ∙ ap (λ i. getD (t .words) i 0) i
 
-    abbrev name : Bytes
-    name = nameAt text (t .words) at
+    abbrev own : Bytes
+    own = nameAt text (t .words) at
 
-    removed : tableOf text u ≡ removeRoles name (tableOf text t)
+    removed : tableOf text u ≡ removeRoles own (tableOf text t)
     removed =
         let c : t .count ≡ suc (u .count) = omega arith in
         let l : tableOf text t ≡ from (entry text (t .words)) 0 (suc (u .count)) =
         table-entries text t ∙ ap (from (entry text (t .words)) 0) c in
-        let p = placed text t name (found-named text t sound name at within (same-refl name)) in
+        let p = placed text t own (found-named text t sound own at within (same-refl own)) in
         table-entries text u
-        ∙ sym (removed-found name (entry text (t .words)) (entry text (u .words)) at
+        ∙ sym (removed-found own (entry text (t .words)) (entry text (u .words)) at
         (λ j a. sym (same-entry text (u .words) j (t .words) j (front-words j a)))
-        0 (u .count) (rw l at (sound .distinct)) (ap (place name (entry text (t .words)) 0) (sym c) ∙ p)
+        0 (u .count) (rw l at (sound .distinct)) (ap (place own (entry text (t .words)) 0) (sym c) ∙ p)
         (λ j a b. sym (same-entry text (u .words) j (t .words) (suc j) (moved-words j a (omega arith)))))
-        ∙ ap (removeRoles name) (sym l)
+        ∙ ap (removeRoles own) (sym l)
 
     entries-sound : (j : ℕ) → j < u .count → SoundAt text (u .hints) (u .words) j
     entries-sound j h =
@@ -98,13 +98,13 @@ module _
         (λ a. same-sound text (u .words) j (t .words) j (front-words j a) (t .hints) (sound-at text t sound j (omega arith)))
         (λ a. same-sound text (u .words) j (t .words) (suc j) (moved-words j a h) (t .hints) (sound-at text t sound (suc j) (omega arith))))
 
-    pub cleared : Cleared text t at u
-    cleared =
+    pub cleared : (name : Bytes) → own ≡ name → Cleared text t name u
+    cleared name e =
         record {
           sound =
               let n = sound .sized in
               all-sound text u (omega arith) entries-sound
-              (rw removed (distinct-removed name (tableOf text t) (sound .distinct)))
-              (rw removed (alive-removed name (tableOf text t) (sound .alive)));
-          table = removed;
+              (rw removed (distinct-removed own (tableOf text t) (sound .distinct)))
+              (rw removed (alive-removed own (tableOf text t) (sound .alive)));
+          table = removed ∙ ap (λ m. removeRoles m (tableOf text t)) e;
         }

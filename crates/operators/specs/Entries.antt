@@ -133,7 +133,12 @@ pub record Declared (text : Bytes) (t : Table) (start size fixity code : ℕ) (u
   pub sound : Sound text u
   pub table : (r : Role) → roleOf code ≡ some r → tableOf text u ≡ G.declareRole (take size (drop start text)) (fixityOf fixity) r (tableOf text t)
 
--- All roles of the operator at an entry are removed.
-pub record Cleared (text : Bytes) (t : Table) (entry : ℕ) (u : Table) : Type 0 where
+-- What removing the roles of a name asks: what the table has of it.
+pub record Clearable (text : Bytes) (t : Table) (found : Found) (name : Bytes) : Type 0 where
+  pub sound : Sound text t
+  pub looked : found ≡ codedFind text (t .words) name 0 (t .count)
+
+-- What it gives: "`plain` removes all roles and does nothing to a word or sign that has none."
+pub record Cleared (text : Bytes) (t : Table) (name : Bytes) (u : Table) : Type 0 where
   pub sound : Sound text u
-  pub table : tableOf text u ≡ G.removeRoles (nameAt text (t .words) entry) (tableOf text t)
+  pub table : tableOf text u ≡ G.removeRoles name (tableOf text t)

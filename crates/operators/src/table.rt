@@ -7,7 +7,7 @@ ghost use Prim.Native.Nat.{ℕ, _≤_, _<_};
 ghost use Rattle.grammar.specs.Bytes.{Bytes, same};
 ghost use Rattle.grammar.specs.Operator.{lawfulTable};
 ghost use Rattle.operators.specs.Entries.{word, nameStart, nameSize, nameIn, nameAt, Stands, codedFind, operatorsFrom, tableBy, hashOf, Sound};
-ghost use Rattle.operators.specs.Entries.{Starting, IsName, Starts, Quickly, Declarable, Declared, Cleared};
+ghost use Rattle.operators.specs.Entries.{Starting, IsName, Starts, Quickly, Declarable, Declared, Clearable, Cleared};
 
 pub const MAX_OPERATORS: usize = 64;
 
@@ -320,20 +320,25 @@ impl Table {
         self
     }
 
-    // All roles of an operator are removed: the entries behind it move one place down.
-    pub fn clear(mut self, entry: usize) -> Table
-        requires { ⌜ entry < self .count × (self .count ≤ 64) ⌝ }
-        ensures { λ r. ⌜ ((text : Bytes) → Sound text self → Cleared text self entry r) ⌝ }
+    // All roles of a name are removed, where the table has it: the entries behind it move one place down.
+    pub fn clear(mut self, found: Found) -> Table
+        requires { ⌜ ((text name : Bytes) × Clearable text self found name) ⌝ }
+        ensures { λ r. ⌜ ((text name : Bytes) → Clearable text self found name → Cleared text self name r) ⌝ }
     {
-        let last = self.count - 1;
-        let mut k = entry * WORDS;
-        let end = last * WORDS;
-        while k < end {
-            self.words[k] = self.words[k + WORDS];
-            k += 1;
+        match found {
+            Found::At { entry } => {
+                let last = self.count - 1;
+                let mut k = entry * WORDS;
+                let end = last * WORDS;
+                while k < end {
+                    self.words[k] = self.words[k + WORDS];
+                    k += 1;
+                }
+                self.count = last;
+                self
+            }
+            Found::Nothing => self,
         }
-        self.count = last;
-        self
     }
 }
 

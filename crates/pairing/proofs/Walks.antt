@@ -1,6 +1,7 @@
 -- What `pair_up` keeps from token to token: the arrays and the row hold what is open, and from there the answer comes out as from the
 -- start. One law for each answer of `move_of`.
-use mathlib.Core.Path.{_≡_, refl, _∙_}
+use mathlib.Core.Path.{_≡_, refl, sym, _∙_}
+use mathlib.Core.Bool.{Bool, true, false}
 use mathlib.Core.List.{List, [], _∷_}
 use Prim.Native.Nat.{ℕ, suc, _+_, _-_, _≤_, _<_}
 use native.Mathlib.Numerals.{add-one}
@@ -13,10 +14,10 @@ use Rattle.grammar.specs.Token.{Structure, structure, structureNumber}
 use Rattle.grammar.specs.Outcome.{refused}
 use Rattle.grammar.specs.Nesting.{Move, stays, enters, becomes, leaves, within, move, closeInnermost, nesting}
 use Rattle.grammar.specs.Coded.{tokenOf}
-use Rattle.grammar.proofs.Logic.{impossible}
+use Rattle.grammar.proofs.Logic.{impossible, below}
 use Rattle.grammar.proofs.Nested.{moved, Allowed, nesting-step, opening-enters, let-enters}
 use Rattle.rows.specs.Fields.{field, kind, store, Holds}
-use Rattle.rows.specs.Tokens.{done, IsAtomKind}
+use Rattle.rows.specs.Tokens.{done, IsAtomKind, Unblocked}
 use Rattle.rows.proofs.Fields.{other-field, store-length}
 use Rattle.pairing.specs.declared.Move as Declared
 use Rattle.pairing.specs.declared.Move.the-variants.{Stay, Break, Open as Opens, Turn, Close}
@@ -68,6 +69,21 @@ Walks K₀ count K S O depth i = (os : List Open) × Walk K₀ count K S O depth
 abbrev pub Made : List ℕ → ℕ → List Open → Declared.Move → Type 0
 Made K i os r = (s : Structure) × (kind K i ≡ structureNumber s) × Does os s r
 
+-- What is known of blocks before token `i`: none has its `in` there, unless one was seen.
+abbrev pub Seen : List ℕ → Bool → ℕ → Type 0
+Seen K₀ blocks i = blocks ≡ false → Unblocked K₀ i
+
+-- Only an `in` turns.
+not-in : {os : List Open} {s : Structure} {r : Declared.Move} → Does os s r → (r ≡ Turn → ⊥) → (r ≡ Break → ⊥) → structureNumber s ≡ 8 → ⊥
+unfolding structureNumber
+not-in (opens x) t b e = omega arith
+not-in closes t b e = omega arith
+not-in separates t b e = omega arith
+not-in (begins x) t b e = omega arith
+not-in turns t b e = t refl
+not-in ends t b e = omega arith
+not-in (breaks x) t b e = b refl
+
 -- The next token and those behind it.
 tokens-next :
     (K : List ℕ) (i count : ℕ) → i < count → tokensBy K i (count - i) ≡ tokenOf (kind K i) [] ∷ tokensBy K (suc i) (count - suc i)
@@ -77,7 +93,8 @@ tokens-next K i count l = let e : count - i ≡ suc (count - suc i) = omega arit
 -- A refusal.
 refusing : {K₀ K : List ℕ} {count n p : ℕ} → Kept K₀ K → nesting [] 0 (tokensBy K₀ 0 count) ≡ refused n p → Pairing K₀ count K (Refused n p)
 unfolding codedNesting
-refusing h e = record { answer = rw e; long = h .long; kept = h .same; closed = λ f. impossible cc }
+refusing h e =
+    record { answer = (true, rw e); long = h .long; kept = h .same; closed = λ b f. impossible cc; unblocked = λ f. impossible cc }
 
 module _
     {K₀ : List ℕ} {count : ℕ} {K S O : List ℕ} {depth i : ℕ} {os : List Open} (w : Walk K₀ count K S O depth i os) (l : i < count)
@@ -92,6 +109,17 @@ module _
         let (s, e) = structure-kind (kind K i) h (walk-kind g .1) in
         let p : getD S depth 0 ≡ openCode os = rw (w .deep) (pairs-innermost (w .held)) in
         (s, e, move-does os s r (rw (structure-token (kind K i) s e) at (f os p)))
+
+    seen-next : {blocks : Bool} → (kind K i ≡ 8 → ⊥) → Seen K₀ blocks i → Seen K₀ blocks (i + 1)
+    seen-next n u e j h k =
+        below j i (λ a. u e j a k) (λ a. let z : j ≡ i = omega arith in n (w .kept .same 0 (lit< tt) i ∙ rw z at k))
+
+    pub seen-atom : {blocks : Bool} → kind K i ≤ 3 → Seen K₀ blocks i → Seen K₀ blocks (i + 1)
+    seen-atom h u = seen-next (λ e. omega arith) u
+
+    pub seen-made :
+        {blocks : Bool} {r : Declared.Move} → Made K i os r → (r ≡ Turn → ⊥) → (r ≡ Break → ⊥) → Seen K₀ blocks i → Seen K₀ blocks (i + 1)
+    seen-made (s, e, d) t b u = seen-next (λ f. not-in d t b (sym e ∙ f)) u
 
     answer-next : nesting [] 0 (tokensBy K₀ 0 count) ≡ nesting os i (tokenOf (kind K i) [] ∷ tokensBy K₀ (suc i) (count - suc i))
     answer-next = w .answer ∙ rw (tokens-next K₀ i count l, ← w .kept .same 0 (lit< tt) i)
@@ -232,12 +260,19 @@ module _ {K₀ : List ℕ} {count : ℕ} {K S O : List ℕ} {depth i : ℕ} (l :
   walk-unclosed [] w h = absurd (omega (arith, w .deep))
   walk-unclosed (o ∷ os) w h = refusing (w .kept) (answer-end w)
 
-  pub walk-passed : (os : List Open) → Walk K₀ count K S O depth i os → depth ≤ 0 → Pairing K₀ count K Passed
+  pub walk-passed :
+      (os : List Open) (blocks : Bool) → Walk K₀ count K S O depth i os → Seen K₀ blocks i → depth ≤ 0 → Pairing K₀ count K (Passed blocks)
   unfolding nesting codedNesting
-  walk-passed (o ∷ os) w h = absurd (omega (arith, w .deep))
-  walk-passed [] w h =
+  walk-passed (o ∷ os) blocks w u h = absurd (omega (arith, w .deep))
+  walk-passed [] blocks w u h =
       let e : i ≡ count = omega (arith, w .behind) in
-      record { answer = rw (answer-end w); long = w .kept .long; kept = w .kept .same; closed = λ f. rw e at (pairs-done (w .held)) }
+      record {
+        answer = (blocks, rw (answer-end w));
+        long = w .kept .long;
+        kept = w .kept .same;
+        closed = λ b f. rw e at (pairs-done (w .held));
+        unblocked = λ f. rw e at (u cc);
+      }
 
 -- Before the first.
 pub walk-starts : (K : List ℕ) (count : ℕ) (S O : List ℕ) → length S ≡ 33 → length O ≡ 33 → getD S 0 0 ≡ 0 → Walks K count K S O 0 0

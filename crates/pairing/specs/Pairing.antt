@@ -1,5 +1,6 @@
 -- Checks 6 and 7 over a row of tokens, and the closers that it gets.
 use mathlib.Core.Path.{_≡_}
+use mathlib.Core.Bool.{Bool, false}
 use mathlib.Core.List.{List, [], _∷_}
 use Prim.Native.Nat.{ℕ, zero, suc, _≤_, _<_}
 use lib.ListN.{length}
@@ -36,17 +37,19 @@ unfoldable pub tokensBy : List ℕ → ℕ → ℕ → List Token
 tokensBy K i zero = []
 tokensBy K i (suc n) = tokenOf (kind K i) [] ∷ tokensBy K (suc i) n
 
-unfoldable pub codedNesting : Outcome (Unit {0}) → Paired
-codedNesting (refused n p) = Refused n p
-codedNesting (passed u) = Passed
+-- What is answered where there are blocks, or none.
+unfoldable pub codedNesting : Bool → Outcome (Unit {0}) → Paired
+codedNesting blocks (refused n p) = Refused n p
+codedNesting blocks (passed u) = Passed blocks
 
 -- Every kind is that of a token.
 abbrev pub Kinded : List ℕ → ℕ → Type 0
 Kinded K n = (j : ℕ) → j < n → (1 ≤ kind K j) × (kind K j ≤ 9)
 
--- What the check answers and writes: only closers, and where it passes the tokens are paired.
+-- What the check answers and writes: only closers, and where it passes the tokens are paired, and are without blocks if it says so.
 pub record Pairing (K : List ℕ) (count : ℕ) (K′ : List ℕ) (r : Paired) : Type 0 where
-  pub answer : r ≡ codedNesting (nesting [] 0 (tokensBy K 0 count))
+  pub answer : (blocks : Bool) × (r ≡ codedNesting blocks (nesting [] 0 (tokensBy K 0 count)))
   pub long : length K′ ≡ length K
   pub kept : (k : ℕ) → k < 3 → (j : ℕ) → field 4 k K′ j ≡ field 4 k K j
-  pub closed : r ≡ Passed → Tokens.Paired K′ 0 count
+  pub closed : (blocks : Bool) → r ≡ Passed blocks → Tokens.Paired K′ 0 count
+  pub unblocked : r ≡ Passed false → Tokens.Unblocked K count

@@ -35,8 +35,9 @@ pub enum Move {
     Close,
 }
 
+// Whether there are blocks; or a refusal and its token.
 pub enum Paired {
-    Passed,
+    Passed { blocks: bool },
     Refused { number: u8, at: usize },
 }
 
@@ -92,6 +93,7 @@ pub fn pair_up(tokens: &mut [u16], count: usize) -> Paired
 {
     let mut pairs = [NOTHING; 33];
     let mut openers = [0u16; 33];
+    let mut blocks = false;
     let mut depth: usize = 0;
     let mut next: usize = 0;
     while next < count {
@@ -120,6 +122,7 @@ pub fn pair_up(tokens: &mut [u16], count: usize) -> Paired
                 }
                 Move::Turn => {
                     row::set_closer(tokens, openers[depth] as usize, i);
+                    blocks = true;
                     pairs[depth] = BODY;
                     openers[depth] = i as u16;
                 }
@@ -136,5 +139,5 @@ pub fn pair_up(tokens: &mut [u16], count: usize) -> Paired
             at: count,
         };
     }
-    Paired::Passed
+    Paired::Passed { blocks }
 }

@@ -1,5 +1,5 @@
 -- The class of a token by its kind: each law takes the tests up to the one that holds. What a class says of the first token of an item,
--- where its characters stand, and what is noted of an atom.
+-- where its characters stand, and what is noted of a name.
 use mathlib.Core.Path.{_≡_, refl, sym, ap, subst, _∙_}
 use mathlib.Core.Logic.{_⊎_, inl, inr}
 use mathlib.Core.List.{List}
@@ -13,16 +13,17 @@ use Rattle.grammar.specs.Token.{symbol, number, quoted}
 use Rattle.grammar.specs.Operator.{Table}
 use Rattle.grammar.proofs.Logic.{below}
 use Rattle.rows.specs.Fields.{kind, start, size, closer, Within}
-use Rattle.rows.specs.Tokens.{charactersOf, atomOf, atomIn, IsAtomKind, Paired, done, single, bracket, block}
+use Rattle.rows.specs.Tokens.{charactersOf, IsAtomKind, Paired, done, single, bracket, block}
 use Rattle.rows.proofs.Fields.{within}
-use Rattle.rows.proofs.Stored.{stored-within, stored-sized, stored-characters}
+use Rattle.rows.proofs.Stored.{part-ends, stored-sized, stored-characters, part-characters}
+use Rattle.rows.proofs.Noting.{NotedAtom, symbol-item, quoted-item}
 use Rattle.operators.specs.Entries.{codedFind, tableOf, IsName}
 use Rattle.operators.specs.declared.table.Found.{Found}
 use Rattle.operators.specs.declared.table.Found.the-variants.{At, Nothing}
 use Rattle.operators.specs.declared.table.Table as E
 use Rattle.resolving.specs.declared.Class.{Class}
 use Rattle.resolving.specs.declared.Class.the-variants.{Name, Number, Operator, Bracket, Block}
-use Rattle.resolving.specs.Resolving.{endOf, foundClass, codedClass, Ranged, NotedAt, NameNoted}
+use Rattle.resolving.specs.Resolving.{endOf, foundClass, codedClass, Ranged, NameNoted}
 
 module _ (text : Bytes) (K : List ℕ) (i : ℕ) (W : List ℕ) (count : ℕ) where
   abbrev class : Class
@@ -112,33 +113,15 @@ module _ {text : Bytes} {K R : List ℕ} {i to : ℕ} (g : Ranged text K R i to)
   pub roles-within : Within 4 R i
   roles-within = within 4 (length (g .placed)) R i (g .roles) stands
 
-  module _ {s n : ℕ} (a : s ≡ start K i) (b : n ≡ size K i) where
-    pub part-ends : s + n ≤ length text
-    part-ends = omega (arith, stored-within (g .stored) i stands)
+  pub part-within : {s n : ℕ} → s ≡ start K i → n ≡ size K i → s + n ≤ length text
+  part-within a b = part-ends (g .stored) i stands a b
 
-    pub part-characters : take (s + n - s) (drop s text) ≡ charactersOf text K i
-    part-characters = let e : s + n - s ≡ size K i = omega arith in rw (e, a)
+  pub part-is : {s n : ℕ} → s ≡ start K i → n ≡ size K i → take (s + n - s) (drop s text) ≡ charactersOf text K i
+  part-is a b = part-characters text K i a b
 
-    pub part-named : kind K i ≤ 3 → IsName (take (s + n - s) (drop s text))
-    part-named k =
-        rw part-characters (omega (arith, stored-characters (g .stored) i stands, stored-sized (g .stored) i stands k))
-
--- What is noted of an atom, by the kind of its token.
-module _ (text : Bytes) (K : List ℕ) (T : Table) (R : List ℕ) (i : ℕ) (R′ : List ℕ) where
-  abbrev NotedAtom : Type 0
-  NotedAtom = IsAtomKind (kind K i) × NotedAt T R i (atomIn text K i) R′
-
-  pub symbol-item : kind K i ≡ 1 → NotedAt T R i (symbol (charactersOf text K i)) R′ → NotedAtom
-  unfolding atomIn atomOf
-  symbol-item e n = rw e (omega arith, n)
-
-  pub number-item : kind K i ≡ 2 → NotedAt T R i (number (charactersOf text K i)) R′ → NotedAtom
-  unfolding atomIn atomOf
-  number-item e n = rw e (omega arith, n)
-
-  quoted-item : kind K i ≡ 3 → NotedAt T R i (quoted (charactersOf text K i)) R′ → NotedAtom
-  unfolding atomIn atomOf
-  quoted-item e n = rw e (omega arith, n)
+  pub part-named : {s n : ℕ} → s ≡ start K i → n ≡ size K i → kind K i ≤ 3 → IsName (take (s + n - s) (drop s text))
+  part-named a b k =
+      rw (part-is a b) (omega (arith, stored-characters (g .stored) i stands, stored-sized (g .stored) i stands k))
 
 -- A name is quoted or no operator.
 pub name-kind : {X : Type 0} {k : ℕ} → ((k ≡ 1) × X) ⊎ (k ≡ 3) → k ≤ 3

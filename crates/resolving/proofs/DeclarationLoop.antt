@@ -28,7 +28,7 @@ use Rattle.rows.specs.Tokens.{charactersOf, range, structureSize, Stored}
 use Rattle.rows.specs.Agreeing.{Agrees}
 use Rattle.rows.proofs.Ranges.{token-structure, length-range}
 use Rattle.rows.proofs.Stored.{stored-within, stored-sized, stored-sizes, stored-characters, stored-ascend, stored-end}
-use Rattle.operators.specs.Entries.{codedFind, hashOf, tableOf, Sound, IsName, Declarable, Declared}
+use Rattle.operators.specs.Entries.{codedFind, hashOf, tableOf, Sound, IsName, Declarable, Declared, Cleared}
 use Rattle.operators.specs.declared.table.Found.{Found}
 use Rattle.operators.specs.declared.table.Found.the-variants.{At, Nothing}
 use Rattle.operators.specs.declared.table.Table.{Table}
@@ -37,8 +37,8 @@ use Rattle.declaration_part.specs.Parsing.{nextPlace, Parses, Parsable}
 use Rattle.declaration_part.specs.declared.parse.Parsed.the-variants.{Unfit}
 use Rattle.resolving.specs.declared.Resolved.{Resolved}
 use Rattle.resolving.specs.declared.Resolved.the-variants.{Refused}
-use Rattle.resolving.specs.Resolving.{Ranged, Lawful, isNew, isFull, Without, Resolves, Resolving, BlockResolves, BlockResolving}
-use Rattle.resolving.proofs.Noting.{kept-none}
+use Rattle.resolving.specs.Resolving.{Ranged, Lawful, isNew, isFull, Resolves, Resolving, BlockResolves, BlockResolving}
+use Rattle.rows.proofs.Noting.{kept-none}
 use Rattle.resolving.proofs.Declared.{structure-kind, begins-behind, entered, entered-lawful, entered-unlawful, unfit-at, DeclarationAt, RoleAt, ClearsAt}
 
 -- The body's range as the code passes it on.
@@ -274,7 +274,7 @@ module _
       cleared-places = name-places behind (clears .step .isSymbol) (clears .stands) b
 
       pub cleared-over :
-          (u : Table) → Without text t (take n (drop o text)) u → {next : ℕ} → next ≡ nextPlace text (nextPlace text o n) 1
+          (u : Table) → Cleared text t (take n (drop o text)) u → {next : ℕ} → next ≡ nextPlace text (nextPlace text o n) 1
           → Entering text K T i c u lawful next (at + 3)
       cleared-over u d e =
           passed-over (clears .step) u (d .sound)

@@ -19,28 +19,19 @@ use Rattle.grammar.proofs.Logic.{impossible}
 use Rattle.rows.specs.Fields.{field, kind, closer, arrival}
 use Rattle.rows.specs.Codes.{Bounded}
 use Rattle.rows.specs.Tokens.{atomIn, range, IsAtomKind, Paired}
-use Rattle.rows.specs.Agreeing.{Noted, Agrees, ends, atoms, brackets, blocks}
+use Rattle.rows.specs.Agreeing.{Noted, KeptOutside, NotedAt, Agrees, ends, atoms, brackets, blocks}
 use Rattle.rows.proofs.Ranges.{length-range}
 use Rattle.rows.proofs.PairedItems.{items-done, items-single, items-bracket, items-block, behind-pair, behind-scope}
 use Rattle.rows.proofs.PairedCases.{BracketAt, BlockAt, paired-ordered, paired-single, paired-bracket, paired-block}
 use Rattle.resolving.specs.declared.Resolved.{Resolved}
 use Rattle.resolving.specs.declared.Resolved.the-variants.{Passed, Refused}
 use Rattle.resolving.specs.Resolving as R
-use Rattle.resolving.specs.Resolving.{Ranged, KeptOutside, NotedAt, endOf, Resolves, Resolving, BlockResolves, BlockResolving}
-use Rattle.resolving.proofs.Noting.{kept-none, kept-join}
+use Rattle.resolving.specs.Resolving.{Ranged, endOf, Resolves, Resolving, BlockResolves, BlockResolving}
+use Rattle.rows.proofs.Noting.{kept-none, kept-join, noted-kept}
 
 -- A row with the same words from token `from` to token `to`.
 abbrev pub SameWords : List ℕ → ℕ → ℕ → List ℕ → Type 0
 SameWords R from to R′ = (k j : ℕ) → k < 4 → from ≤ j → j < to → field 4 k R′ j ≡ field 4 k R j
-
-noted-kept : {T : Table} {R R′ : List ℕ} {i : ℕ} {a : Atom} → ((k : ℕ) → k < 4 → field 4 k R′ i ≡ field 4 k R i) → Noted T R i a → Noted T R′ i a
-noted-kept s n =
-    record {
-      prefixed = s 0 (omega arith) ∙ n .prefixed;
-      between = s 1 (omega arith) ∙ n .between;
-      postfixed = s 2 (omega arith) ∙ n .postfixed;
-      arrives = s 3 (omega arith) ∙ n .arrives;
-    }
 
 -- It agrees with the same items.
 agrees-kept :

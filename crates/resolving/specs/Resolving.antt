@@ -1,7 +1,6 @@
 -- Refusals 8 to 10 over all blocks, and the roles in force of each item.
 use mathlib.Core.Path.{_≡_}
 use mathlib.Core.Bool.{Bool, true, false}
-use mathlib.Core.Logic.{_⊎_}
 use mathlib.Core.List.{List}
 use Prim.Native.Nat.{ℕ, suc, _+_, _-_, _≤_, _<_}
 use lib.Dec.{eqb, leb}
@@ -11,13 +10,13 @@ use Rattle.grammar.specs.Bytes.{Bytes}
 use Rattle.grammar.specs.Token.{Token, Atom, symbol, quoted}
 use Rattle.grammar.specs.Outcome.{Outcome, refused, passed, andThen}
 use Rattle.grammar.specs.Scan.{Placed}
-use Rattle.grammar.specs.Operator.{Table, removeRoles, lawfulTable}
+use Rattle.grammar.specs.Operator.{Table, lawfulTable}
 use Rattle.grammar.specs.Declaration.{mostOperators, enter, declarations, allTokens}
 use Rattle.grammar.specs.Blocks.{bodyTable, checkBlocks}
-use Rattle.rows.specs.Fields.{field, store, kind, start, size, closer, arrival, Holds}
+use Rattle.rows.specs.Fields.{kind, start, size, closer, arrival, Holds}
 use Rattle.rows.specs.Codes.{Bounded}
 use Rattle.rows.specs.Tokens.{charactersOf, atomIn, range, IsAtomKind, IsQuietKind, Paired, Stored}
-use Rattle.rows.specs.Agreeing.{Noted, Agrees}
+use Rattle.rows.specs.Agreeing.{KeptOutside, NotedAt, Agrees}
 use Rattle.operators.specs.Entries.{codedFind, tableBy, tableOf, Sound}
 use Rattle.operators.specs.declared.table.Found.{Found}
 use Rattle.operators.specs.declared.table.Found.the-variants.{At, Nothing}
@@ -74,21 +73,7 @@ abbrev pub Resolves : Bytes → List ℕ → List ℕ → Table → ℕ → ℕ 
 Resolves text K R T from to (refused n p) r = r ≡ Refused n p
 Resolves text K R T from to (passed u) r = (r ≡ Passed) × Agrees text K R T from to
 
--- The entries of the row outside `from` to `to` are as they were.
-pub record KeptOutside (R : List ℕ) (from to : ℕ) (R′ : List ℕ) : Type 0 where
-  pub long : length R′ ≡ length R
-  pub same : (k j : ℕ) → k < 4 → (j < from) ⊎ (to ≤ j) → field 4 k R′ j ≡ field 4 k R j
-
--- The row with the four words of token `i`.
-abbrev pub withWords : List ℕ → ℕ → ℕ → ℕ → ℕ → ℕ → List ℕ
-withWords R i p q s a = store 4 3 (store 4 2 (store 4 1 (store 4 0 R i p) i q) i s) i a
-
--- The row has what is noted of an atom at token `i`, and is otherwise as it was.
-pub record NotedAt (T : Table) (R : List ℕ) (i : ℕ) (a : Atom) (R′ : List ℕ) : Type 0 where
-  pub noted : Noted T R′ i a
-  pub kept : KeptOutside R i (suc i) R′
-
--- So of the operator of an entry, by whatever name it is found, ..
+-- What is noted of the operator of an entry, by whatever name it is found, ..
 abbrev pub OperatorNoted : List ℕ → ℕ → List ℕ → ℕ → List ℕ → Type 0
 OperatorNoted W k R i R′ =
     (text H : List ℕ) (count : ℕ) → Sound text (tableBy W H count) → (name : Bytes) → codedFind text W name 0 count ≡ At k
@@ -119,11 +104,6 @@ isNew Nothing = true
 unfoldable pub isFull : ℕ → Found → Bool
 isFull count (At i) = false
 isFull count Nothing = leb mostOperators count
-
--- All roles of a name are removed.
-pub record Without (text : Bytes) (t : E.Table) (name : Bytes) (u : E.Table) : Type 0 where
-  pub sound : Sound text u
-  pub table : tableOf text u ≡ removeRoles name (tableOf text t)
 
 -- A block with `let` at `i`, `in` at `c` and `end` at `e`.
 pub record BlockAt (K : List ℕ) (i c e : ℕ) : Type 0 where

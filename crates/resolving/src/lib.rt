@@ -10,15 +10,18 @@ use rows::kinds;
 use rows::role;
 use rows::roles as row;
 use rows::tokens;
+use starting_operators::notes;
 ghost use mathlib.Core.Path.{_≡_};
+ghost use mathlib.Core.Bool.{false};
 ghost use mathlib.Core.List.{List};
 ghost use Prim.Native.Nat.{ℕ, suc, _≤_, _<_};
 ghost use Rattle.grammar.specs.Declaration.{startTable};
 ghost use Rattle.rows.specs.Fields.{closer, Within};
+ghost use Rattle.rows.specs.Tokens.{Unblocked};
 ghost use Rattle.operators.specs.Entries.{tableBy, tableOf, Sound, IsName};
 ghost use Rattle.declaration_part.specs.Parsing.{nextPlace};
-ghost use Rattle.resolving.specs.Resolving.{codedClass, Ranged, Lawful, withWords, OperatorNoted, NameNoted, Notes, Resolving};
-ghost use Rattle.resolving.specs.Resolving.{endOf, isNew, isFull, Without, BlockAt, BlockResolving};
+ghost use Rattle.resolving.specs.Resolving.{codedClass, Ranged, Lawful, OperatorNoted, NameNoted, Notes, Resolving};
+ghost use Rattle.resolving.specs.Resolving.{endOf, isNew, isFull, BlockAt, BlockResolving};
 
 // A classified token: a name with the offset and the length of its characters, a number, an operator with its entry in the table, a bracket
 // pair or a block with its closing token.
@@ -83,17 +86,6 @@ pub fn classify<'a>(
     Class::Name { start, size }
 }
 
-// The words of token `i`.
-fn store(roles: &mut [u16], i: usize, prefix: u16, infix: u16, postfix: u16, arrival: u16)
-    requires { ⌜ Within 4 (now roles) i ⌝ }
-    ensures { λ r. ⌜ now (roles .exit) ≡ withWords (now (roles .entry)) i prefix «infix» postfix arrival ⌝ }
-{
-    row::set_prefix(roles, i, prefix);
-    row::set_infix(roles, i, infix);
-    row::set_postfix(roles, i, postfix);
-    row::set_arrival(roles, i, arrival);
-}
-
 // What is noted of an operator: the roles of entry `k`, and its arrival.
 fn store_operator<'a>(roles: &mut [u16], i: usize, words: &'a [u16; 320], k: usize)
     requires { ⌜ Within 4 (now roles) i × ((text H : List ℕ) × (count : ℕ) × Sound text (tableBy (now words) H count) × (k < count)) ⌝ }
@@ -102,7 +94,7 @@ fn store_operator<'a>(roles: &mut [u16], i: usize, words: &'a [u16; 320], k: usi
     let prefix = table::prefix(words, k);
     let infix = table::infix(words, k);
     let postfix = table::postfix(words, k);
-    store(
+    row::set(
         roles,
         i,
         prefix,
@@ -130,7 +122,7 @@ fn store_name<'a>(
     if quoted {
         match table::find(text, words, hints, count, name) {
             Found::At { entry } => {
-                store(
+                row::set(
                     roles,
                     i,
                     table::prefix(words, entry),
@@ -143,7 +135,7 @@ fn store_name<'a>(
             Found::Nothing => {}
         }
     }
-    store(roles, i, 0, 0, 0, 0);
+    row::set(roles, i, 0, 0, 0, 0);
 }
 
 // What an item is: an atom, or a bracket pair or a block with its closing token.
@@ -180,15 +172,15 @@ fn note<'a>(
             Item::Atom
         }
         Class::Number => {
-            store(roles, i, 0, 0, 0, 0);
+            row::set(roles, i, 0, 0, 0, 0);
             Item::Atom
         }
         Class::Bracket { closer } => {
-            store(roles, i, 0, 0, 0, 0);
+            row::set(roles, i, 0, 0, 0, 0);
             Item::Bracket { closer }
         }
         Class::Block { closer } => {
-            store(roles, i, 0, 0, 0, 0);
+            row::set(roles, i, 0, 0, 0, 0);
             Item::Block { closer }
         }
     }
@@ -272,18 +264,6 @@ fn is_new(found: Found) -> bool
     }
 }
 
-// The table without the roles of a name.
-fn without(text: &[u8], t: Table, name: &[u8]) -> Table
-    requires { ⌜ Sound (now text) t × IsName (now name) ⌝ }
-    ensures { λ r. ⌜ Without (now (text .entry)) t (now (name .entry)) r ⌝ }
-{
-    let count = t.count;
-    match table::find(text, &t.words, &t.hints, count, name) {
-        Found::At { entry } => t.clear(entry),
-        Found::Nothing => t,
-    }
-}
-
 // Where the token behind the `;` begins that stands behind `n` bytes at `at`.
 fn behind_semicolon(text: &[u8], at: usize, n: usize) -> usize
     requires { ⌜ (at ≤ 65535) × (n ≤ 65535) × (nextPlace (now text) at n ≤ 65535) ⌝ }
@@ -355,7 +335,9 @@ fn resolve_block<'a>(
             }
             Parsed::Clears { place: operator } => {
                 let size = tokens::size(tokens, at + 1);
-                t = without(text, t, walk::token_at(text, operator, size));
+                let name = walk::token_at(text, operator, size);
+                let count = t.count;
+                t = t.clear(table::find(text, &t.words, &t.hints, count, name));
                 place = behind_semicolon(text, operator, size);
                 at += 3;
             }
@@ -373,11 +355,21 @@ fn resolve_block<'a>(
     resolve(text, tokens, body + 1, end, &t.words, &t.hints, n, roles)
 }
 
-// The roles of all items of `count` tokens, under the starting operators.
-pub fn resolve_text(text: &[u8], tokens: &[u16], count: usize, roles: &mut [u16]) -> Resolved
-    requires { ⌜ Ranged (now text) (now tokens) (now roles) 0 count ⌝ }
+// The roles of all items of `count` tokens, under the starting operators. Where there are no blocks, nothing else is ever in force.
+pub fn resolve_text(
+    text: &[u8],
+    tokens: &[u16],
+    count: usize,
+    blocks: bool,
+    roles: &mut [u16],
+) -> Resolved
+    requires { ⌜ Ranged (now text) (now tokens) (now roles) 0 count × (blocks ≡ false → Unblocked (now tokens) count) ⌝ }
     ensures { λ r. ⌜ Resolving (now (text .entry)) (now (tokens .entry)) startTable 0 count (now (roles .entry)) (now (roles .exit)) r ⌝ }
 {
+    if !blocks {
+        notes::note_all(text, tokens, count, roles);
+        return Resolved::Passed;
+    }
     let t = Table::new();
     let n = t.count;
     resolve(text, tokens, 0, count, &t.words, &t.hints, n, roles)

@@ -6,6 +6,7 @@ pub mod PairedCases
 pub mod TokenBytes
 pub mod Stored
 pub mod AtomRoles
+pub mod Noting
 pub mod InUse
 pub mod Standing
 pub mod TreeTokens

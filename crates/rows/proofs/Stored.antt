@@ -3,9 +3,9 @@
 use mathlib.Core.Path.{_≡_, refl, sym, ap, ap₂, subst, _∙_}
 use mathlib.Core.Bool.{true}
 use mathlib.Core.List.{List, [], _∷_, _++_, map}
-use Prim.Native.Nat.{ℕ, zero, suc, _+_, _≤_, _<_}
+use Prim.Native.Nat.{ℕ, zero, suc, _+_, _-_, _≤_, _<_}
 use native.Mathlib.Omega.{arith}
-use lib.ListN.{length, drop, getD, length-append, length-drop, length-take, length-map, List·getD-append}
+use lib.ListN.{length, take, drop, getD, length-append, length-drop, length-take, length-map, List·getD-append}
 use lib.Seq.{drop-length, getD-at, ext-getD, drop-drop, drop-append-seam}
 use Rattle.grammar.specs.Fault.{longestText, mostTokens}
 use Rattle.grammar.specs.Bytes.{Bytes}
@@ -151,6 +151,10 @@ module _ {text : Bytes} {ps : List Placed} {K : List ℕ} (v : Stored text ps K)
     pub stored-starts : length text ≤ longestText → start K j < longestText
     stored-starts short = omega (arith, stored-begins)
 
+    -- So does a part of the text that begins where they do and is as long; it has as many bytes.
+    pub part-ends : {s n : ℕ} → s ≡ start K j → n ≡ size K j → s + n ≤ length text
+    part-ends a b = omega (arith, stored-within)
+
     pub stored-characters : length (charactersOf text K j) ≡ size K j
     stored-characters = simp (length-take, length-drop) (omega (arith, stored-within))
 
@@ -264,6 +268,11 @@ module _ {text : Bytes} {ps : List Placed} {K : List ℕ} (v : Stored text ps K)
         (suc (start K j + size K j))
         (ap suc (ap₂ _+_ (stored-place j h) (stored-size j h))
         ∙ token-ends (tokenIn text K j) (offsetOf text ps j) .enclosed (omega (arith, stored-kind j h)) (omega (arith, stored-kind j h)))
+
+-- The part of the text from where the characters of a token begin, as long as they are.
+pub part-characters :
+    (text : Bytes) (K : List ℕ) (j : ℕ) {s n : ℕ} → s ≡ start K j → n ≡ size K j → take (s + n - s) (drop s text) ≡ charactersOf text K j
+part-characters text K j {s} {n} a b = let e : s + n - s ≡ size K j = omega arith in rw (e, a)
 
 -- A row with the same kinds, places and sizes has the same tokens.
 pub stored-kept :

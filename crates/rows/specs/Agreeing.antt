@@ -1,14 +1,16 @@
 -- What a row of roles holds: of each item its roles under the operators in force there.
 use mathlib.Core.Path.{_≡_}
 use mathlib.Core.List.{List}
+use mathlib.Core.Logic.{_⊎_}
 use mathlib.Core.Option.{none}
-use Prim.Native.Nat.{ℕ, suc, _<_}
+use Prim.Native.Nat.{ℕ, suc, _≤_, _<_}
+use lib.ListN.{length}
 use Rattle.grammar.specs.Bytes.{Bytes}
 use Rattle.grammar.specs.Token.{Atom, symbol, number, quoted}
 use Rattle.grammar.specs.Operator.{Prefix, Infix, Postfix, Roles, Table, role}
 use Rattle.grammar.specs.Declaration.{declarations, allTokens}
 use Rattle.grammar.specs.Blocks.{bodyTable}
-use Rattle.rows.specs.Fields.{kind, closer, prefix, infixed, postfix, arrival}
+use Rattle.rows.specs.Fields.{field, kind, closer, prefix, infixed, postfix, arrival}
 use Rattle.rows.specs.Codes.{roleCode, arrivalOf, Bounded}
 use Rattle.rows.specs.Tokens.{atomIn, range, IsAtomKind, IsQuietKind}
 
@@ -30,6 +32,16 @@ pub record Noted (T : Table) (R : List ℕ) (i : ℕ) (a : Atom) : Type 0 where
   pub between : infixed R i ≡ roleCode (rolesFor T a Infix)
   pub postfixed : postfix R i ≡ roleCode (rolesFor T a Postfix)
   pub arrives : arrival R i ≡ arrivalFor T a
+
+-- The entries of the row outside `from` to `to` are as they were.
+pub record KeptOutside (R : List ℕ) (from to : ℕ) (R′ : List ℕ) : Type 0 where
+  pub long : length R′ ≡ length R
+  pub same : (k j : ℕ) → k < 4 → (j < from) ⊎ (to ≤ j) → field 4 k R′ j ≡ field 4 k R j
+
+-- The row has what is noted of an atom at token `i`, and is otherwise as it was.
+pub record NotedAt (T : Table) (R : List ℕ) (i : ℕ) (a : Atom) (R′ : List ℕ) : Type 0 where
+  pub noted : Noted T R′ i a
+  pub kept : KeptOutside R i (suc i) R′
 
 -- The tokens from number `i` to number `to` are paired, and the row has the roles of each item under the operators in force: within bracket
 -- pairs too, and within blocks under the operators of their bodies. A bracket pair or block is no operator.

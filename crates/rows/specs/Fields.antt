@@ -44,6 +44,10 @@ postfix R i = field 4 2 R i
 abbrev pub arrival : List ℕ → ℕ → ℕ
 arrival R i = field 4 3 R i
 
+-- The row of roles with the four words of token `i`.
+abbrev pub withWords : List ℕ → ℕ → ℕ → ℕ → ℕ → ℕ → List ℕ
+withWords R i p q s a = store 4 3 (store 4 2 (store 4 1 (store 4 0 R i p) i q) i s) i a
+
 -- Of a row of roots.
 abbrev pub left : List ℕ → ℕ → ℕ
 left O i = field 2 0 O i

@@ -54,6 +54,10 @@ pub data Paired (K : List ℕ) : ℕ → ℕ → Type 0 where
       {i to : ℕ} (c e : ℕ) → kind K i ≡ 7 → closer K i ≡ c → closer K c ≡ e → i < c → c < e → e < to → kind K c ≡ 8 → kind K e ≡ 9
       → ((j : ℕ) → i < j → j < c → IsQuietKind (kind K j)) → Paired K (suc c) e → Paired K (suc e) to → Paired K i to
 
+-- None of `n` tokens is the `in` of a block.
+abbrev pub Unblocked : List ℕ → ℕ → Type 0
+Unblocked K n = (j : ℕ) → j < n → kind K j ≡ 8 → ⊥
+
 -- Where the characters of a placed token begin: behind the quote of a quoted name.
 unfoldable pub placeOf : Token → ℕ → ℕ
 placeOf (atom (symbol w)) at = at

@@ -2,7 +2,7 @@
 // when it comes: 0 if it is no operator, else one more than the precedence of its role with something on its left (infix, else postfix),
 // 1 if it has no such role. Written by resolving.
 ghost use mathlib.Core.Path.{_≡_};
-ghost use Rattle.rows.specs.Fields.{Within, store, prefix, infixed, postfix, arrival};
+ghost use Rattle.rows.specs.Fields.{Within, store, prefix, infixed, postfix, arrival, withWords};
 
 pub const WORDS: usize = 4;
 
@@ -68,4 +68,15 @@ pub fn set_arrival(roles: &mut [u16], i: usize, arrival: u16)
     ensures { λ r. ⌜ now (roles .exit) ≡ store 4 3 (now (roles .entry)) i arrival ⌝ }
 {
     roles[i * WORDS + ARRIVAL] = arrival;
+}
+
+// All four words of token `i`.
+pub fn set(roles: &mut [u16], i: usize, prefix: u16, infix: u16, postfix: u16, arrival: u16)
+    requires { ⌜ Within 4 (now roles) i ⌝ }
+    ensures { λ r. ⌜ now (roles .exit) ≡ withWords (now (roles .entry)) i prefix «infix» postfix arrival ⌝ }
+{
+    set_prefix(roles, i, prefix);
+    set_infix(roles, i, infix);
+    set_postfix(roles, i, postfix);
+    set_arrival(roles, i, arrival);
 }

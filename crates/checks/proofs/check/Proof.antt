@@ -44,7 +44,8 @@ check-blocks-requires c κs =
     let e = d .before .before .before .before .before .before .before .before in
     let p = e .pre in
     let t = tokenized p _ _ _ _ (d .scan .ensures .0) (d .scan .ensures .1) (b .count .given .1) in
-    flat-matched (t .0) _ (t .1 (a .if1 .left))
+    let (m, u) = flat-matched (t .0) _ (t .1 (a .if1 .left)) in
+    (m, λ z. u)
 
 same-length-4 : tie.Need-same-length-4
 same-length-4 c = search needs

@@ -6,7 +6,7 @@ use Rattle.checks.proofs.check_blocks.Tie as tie
 
 resolve-text-requires : tie.Need-resolve-text-requires
 resolve-text-requires c κs =
-    ranged (c .before .before .before .before .before .pre)
+    let p = c .before .before .before .before .before .pre in (ranged (p .0), p .1)
 
 enum-known-number : tie.Need-enum-known-number
 enum-known-number c = search needs
@@ -21,7 +21,7 @@ check-spans-requires : tie.Need-check-spans-requires
 check-spans-requires c κs =
     let a = c .before .before .before .before .before .before in
     let b = a .before .before .before .before .before .before in
-    classified (b .pre) _ _ (a .resolve-text .ensures) (c .before .before .enum-told .given .1)
+    classified (b .pre .0) _ _ (a .resolve-text .ensures) (c .before .before .enum-told .given .1)
 
 same-length : tie.Need-same-length
 same-length c = search needs
@@ -30,7 +30,7 @@ returns : tie.Need-returns
 returns c =
     let a = c .before .before .before .before .before .before in
     let b = a .before .before .before .before .before .before in
-    rw (c .offset-of .ensures) (not-resolved (b .pre) _ _ (a .resolve-text .ensures) _ _ _ (c .before .before .number .given .1))
+    rw (c .offset-of .ensures) (not-resolved (b .pre .0) _ _ (a .resolve-text .ensures) _ _ _ (c .before .before .number .given .1))
 
 same-length-2 : tie.Need-same-length-2
 same-length-2 c = search needs

@@ -17,15 +17,15 @@ offset-of-requires c κs =
     let b = a .before .before .before .before .before .before in
     (_, _, still-tokens (b .pre) _ _ (a .pair-up .ensures))
 
-enum-told : tie.Need-enum-told
-enum-told c = search needs
+enum-known-blocks : tie.Need-enum-known-blocks
+enum-known-blocks c = search needs
 
 check-blocks-requires : tie.Need-check-blocks-requires
 check-blocks-requires c κs =
-    let a = c .before .before .before in
+    let a = c .before .before .before .before in
     let b = a .before .before .before .before in
     let d = b .before .before .before .before .before .before in
-    matched (d .pre) _ _ (b .pair-up .ensures) (a .enum-told .given .1)
+    matched (d .pre) _ _ (b .pair-up .ensures) _ (a .blocks2 .given .1)
 
 same-length : tie.Need-same-length
 same-length c = search needs
@@ -56,7 +56,7 @@ check-tokens-spec =
     pair-up-requires
     enum-known-number
     offset-of-requires
-    enum-told
+    enum-known-blocks
     check-blocks-requires
     same-length
     returns

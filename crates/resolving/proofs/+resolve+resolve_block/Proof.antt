@@ -19,11 +19,11 @@ use Rattle.rows.proofs.Fields.{within}
 use Rattle.rows.proofs.Stored.{stored-begins}
 use Rattle.rows.specs.Tokens.{range}
 use Rattle.rows.proofs.PairedCases.{BracketAt, BlockAt, paired-bracket, paired-block}
-use Rattle.operators.specs.Entries.{codedFind, hashOf, tableBy, tableOf, IsName, Declarable}
+use Rattle.operators.specs.Entries.{codedFind, hashOf, tableBy, tableOf, IsName, Declarable, Clearable}
 use Rattle.operators.proofs.Roles.{failed, held}
 use Rattle.declaration_part.specs.Parsing.{Parses}
 use Rattle.declaration_part.specs.declared.parse.Parsed.{Parsed}
-use Rattle.resolving.specs.Resolving.{endOf, Notes, isNew, Without}
+use Rattle.resolving.specs.Resolving.{endOf, Notes, isNew}
 use Rattle.resolving.specs.declared.Item.{Item}
 use Rattle.resolving.proofs.ItemLoop.{
   Progress,
@@ -67,6 +67,7 @@ use Rattle.resolving.proofs.+resolve+resolve_block.Lts-resolve_block as
 use Rattle.declaration_part.proofs.parse.declaration_at.Reads as declaration-at-reads
 use Rattle.declaration_part.proofs.walk.next_at.Reads as next-at-reads
 use Rattle.declaration_part.proofs.walk.token_at.Reads as token-at-reads
+use Rattle.operators.proofs.table.Table.clear.Reads as clear-reads
 use Rattle.operators.proofs.table.Table.declare.Reads as declare-reads
 use Rattle.operators.proofs.table.all_lawful.Reads as all-lawful-reads
 use Rattle.operators.proofs.table.find.Reads as find-reads
@@ -75,7 +76,6 @@ use Rattle.resolving.proofs.behind_semicolon.Reads as behind-semicolon-
 use Rattle.resolving.proofs.is_full.Reads as is-full-reads
 use Rattle.resolving.proofs.is_new.Reads as is-new-reads
 use Rattle.resolving.proofs.note.Reads as note-reads
-use Rattle.resolving.proofs.without.Reads as without-reads
 use Rattle.rows.proofs.tokens.closer.Reads as closer-reads
 use Rattle.rows.proofs.tokens.size.Reads as size-reads
 use Rattle.rows.proofs.tokens.start.Reads as start-reads
@@ -350,8 +350,8 @@ block-calls t = (
   declare-reads.Learnt,
   behind-semicolon-reads.Asked,
   behind-semicolon-reads.Learnt,
-  without-reads.Asked,
-  without-reads.Learnt,
+  clear-reads.Asked,
+  clear-reads.Learnt,
   all-lawful-reads.Asked,
   all-lawful-reads.Learnt,
 )
@@ -652,41 +652,72 @@ module _ (t : ℕ) where
   block-token-at-requires-2 : resolve-block-lts.Need-token-at-requires-2 (block-calls t) (resolve-block-at t) resolve-block.Post Inv-declarations μ-declarations
   block-token-at-requires-2 c κs = search needs
 
-  block-without-requires : resolve-block-lts.Need-without-requires (block-calls t) (resolve-block-at t) resolve-block.Post Inv-declarations μ-declarations
-  block-without-requires c κs =
-      let z = c .before in
-      let m = z .before .before in
-      let w = m .before .before .before in (
+  -- Its name, and what the table has of it.
+  abbrev clears-turn :
+      resolve-block-lts.After-token-at2 (block-calls t) (resolve-block-at t) resolve-block.Post Inv-declarations μ-declarations
+      → resolve-block-lts.In-loop (block-calls t) (resolve-block-at t) resolve-block.Post Inv-declarations μ-declarations
+  clears-turn c = c .before .before .before .before .before .before
+
+  block-find-requires-2 : resolve-block-lts.Need-find-requires-2 (block-calls t) (resolve-block-at t) resolve-block.Post Inv-declarations μ-declarations
+  block-find-requires-2 c κs =
+      let n = c .before .before .before in
+      let w = clears-turn n in (
         w .before .loop .inv .sound,
-        subst IsName (sym (c .token-at2 .ensures)) (cleared-name (w .before .loop .inv) (not-in w) (clears m) (z .size2 .ensures)),
+        subst IsName (sym (n .token-at2 .ensures)) (cleared-name (w .before .loop .inv) (not-in w) (clears (n .before .before .before)) (n .before .size2 .ensures)),
       )
+
+  clearable :
+      (c : resolve-block-lts.After-find2 (block-calls t) (resolve-block-at t) resolve-block.Post Inv-declarations μ-declarations)
+      → let n = c .before .before .before .before in
+      let w = clears-turn n .before in
+      let m = n .before .before .before in
+      let a = block-entry (block-of w) .args in
+      Clearable (a .text .now) (w .loop .t) (c .find2 .result) (take (n .before .size2 .result) (drop (m .operator .given .0 .0) (a .text .now)))
+  clearable c =
+      let n = c .before .before .before .before in
+      let w = clears-turn n .before in
+      record {
+        sound = w .loop .inv .sound;
+        looked = c .find2 .ensures ∙ ap (λ m. codedFind (block-entry (block-of w) .args .text .now) (w .loop .t .words) m 0 (w .loop .t .count)) (n .token-at2 .ensures);
+      }
+
+  block-clear-requires : resolve-block-lts.Need-clear-requires (block-calls t) (resolve-block-at t) resolve-block.Post Inv-declarations μ-declarations
+  block-clear-requires c κs = (_, _, clearable c)
+
+  -- The same from behind its removal.
+  abbrev cleared-token :
+      resolve-block-lts.After-clear (block-calls t) (resolve-block-at t) resolve-block.Post Inv-declarations μ-declarations
+      → resolve-block-lts.After-token-at2 (block-calls t) (resolve-block-at t) resolve-block.Post Inv-declarations μ-declarations
+  cleared-token c = c .before .before .before .before .before
+
+  abbrev cleared-from :
+      resolve-block-lts.After-clear (block-calls t) (resolve-block-at t) resolve-block.Post Inv-declarations μ-declarations
+      → resolve-block-lts.After-operator (block-calls t) (resolve-block-at t) resolve-block.Post Inv-declarations μ-declarations
+  cleared-from c = cleared-token c .before .before .before
 
   block-behind-semicolon-requires-2 : resolve-block-lts.Need-behind-semicolon-requires-2 (block-calls t) (resolve-block-at t) resolve-block.Post Inv-declarations μ-declarations
   block-behind-semicolon-requires-2 c κs =
-      let z = c .before .before in
-      let m = z .before .before in
-      let w = m .before .before .before in
-      cleared-places (w .before .loop .inv) (not-in w) (clears m) (z .size2 .ensures)
+      let n = cleared-token c in
+      let w = clears-turn n in
+      cleared-places (w .before .loop .inv) (not-in w) (clears (cleared-from c)) (n .before .size2 .ensures)
 
   block-add-at-3 : resolve-block-lts.Need-add-at-3 (block-calls t) (resolve-block-at t) resolve-block.Post Inv-declarations μ-declarations
   block-add-at-3 c =
-      let m = c .before .before .before .before .before in
+      let m = cleared-from (c .before) in
       omega (arith, clears-within m, small (block-entry (block-of (m .before .before .before .before))))
 
   block-loop-less-2 : resolve-block-lts.Need-loop-less-2 (block-calls t) (resolve-block-at t) resolve-block.Post Inv-declarations μ-declarations
   block-loop-less-2 c =
-      let m = c .before .before .before .before .before in
+      let m = cleared-from (c .before) in
       omega (arith, clears-within m, opened (block-of (m .before .before .before .before)))
 
   block-loop-again-2 : resolve-block-lts.Need-loop-again-2 (block-calls t) (resolve-block-at t) resolve-block.Post Inv-declarations μ-declarations
   block-loop-again-2 c =
       let u = c .before in
-      let z = u .before .before in
-      let m = z .before .before in
-      let w = m .before .before .before in
-      let a = block-entry (block-of (w .before)) .args in
-      cleared-over (w .before .loop .inv) (not-in w) (clears m) (z .size2 .ensures) _
-      (subst (λ n. Without (a .text .now) (w .before .loop .t) n (u .without .result)) (u .before .token-at2 .ensures) (u .without .ensures))
+      let n = cleared-token u in
+      let w = clears-turn n in
+      cleared-over (w .before .loop .inv) (not-in w) (clears (cleared-from u)) (n .before .size2 .ensures) _
+      (u .clear .ensures _ _ (clearable (u .before)))
       (c .behind-semicolon2 .ensures)
 
   -- Behind the last declaration.
@@ -808,7 +839,8 @@ pub +resolve+resolve-block-spec : {M : Type 1} → statement M
     (block-add-size t)
     (block-size-requires-2 t)
     (block-token-at-requires-2 t)
-    (block-without-requires t)
+    (block-find-requires-2 t)
+    (block-clear-requires t)
     (block-behind-semicolon-requires-2 t)
     (block-add-at-3 t)
     (block-loop-less-2 t)

@@ -14,7 +14,7 @@ use Rattle.operators.specs.declared.table.Found.{Found}
 use Rattle.operators.specs.declared.table.Found.the-variants.{Nothing}
 use Rattle.resolving.specs.Resolving.{codedClass}
 use Rattle.resolving.specs.declared.Class.the-variants.{Name, Bracket, Block}
-use Rattle.resolving.proofs.Classes.{class-operator, class-name, class-number, class-bracket, class-block, class-other, part-ends, part-characters, part-named}
+use Rattle.resolving.proofs.Classes.{class-operator, class-name, class-number, class-bracket, class-block, class-other, part-within, part-is, part-named}
 use Rattle.resolving.proofs.classify.Statement.{statement}
 use Rattle.resolving.proofs.classify.Tie as tie
 
@@ -34,7 +34,7 @@ name :
     take (s + c .size .result - s) (drop s (a .text .now)) ≡ charactersOf (a .text .now) (a .tokens .now) (a .i)
 name c =
     let p = entry (first c) .pre .0 in
-    part-characters (p .2) (p .3) (c .before .start .ensures) (c .size .ensures)
+    part-is (p .2) (p .3) (c .before .start .ensures) (c .size .ensures)
 
 named :
     (c : tie.Then4) → let s = c .before .before .start .result in
@@ -47,7 +47,7 @@ named c =
 ends : (c : tie.After-size) → c .before .start .result + c .size .result ≤ length (entry (first c) .args .text .now)
 ends c =
     let p = entry (first c) .pre .0 in
-    part-ends (p .2) (p .3) (c .before .start .ensures) (c .size .ensures)
+    part-within (p .2) (p .3) (c .before .start .ensures) (c .size .ensures)
 
 -- What the search of its name finds.
 abbrev finds : tie.After-size → Bytes → Found

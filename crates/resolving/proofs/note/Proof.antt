@@ -8,16 +8,14 @@ use Rattle.operators.specs.Entries.{tableBy}
 use Rattle.operators.specs.declared.table.Table.{Table}
 use Rattle.resolving.specs.declared.Class.{Class}
 use Rattle.operators.proofs.Lookups.{found-below}
-use Rattle.resolving.proofs.Noting.{words-stored, number-noted}
+use Rattle.rows.proofs.Noting.{words-stored, number-noted, symbol-item, number-item}
 use Rattle.resolving.proofs.Classes.{
   Says,
   found-says,
   roles-within,
-  part-ends,
-  part-characters,
+  part-within,
+  part-is,
   part-named,
-  symbol-item,
-  number-item,
   name-kind,
   name-item,
 }
@@ -66,7 +64,7 @@ ends c =
     let d = c .before .before in
     let p = entry d .pre .0 in
     let s = says d _ (c .start .given .1) in
-    part-ends (p .1) (p .2) (s .0) (s .1)
+    part-within (p .1) (p .2) (s .0) (s .1)
 
 add-e : tie.Need-add-e
 add-e c = omega (arith, ends (c .before), entry (c .before .before .before) .pre .0 .1 .short)
@@ -97,20 +95,20 @@ store-name-requires c κs =
 enum-told : tie.Need-enum-told
 enum-told c = search needs
 
-store-requires : tie.Need-store-requires
-store-requires c κs = search needs
+set-requires : tie.Need-set-requires
+set-requires c κs = search needs
 
 enum-known-closer : tie.Need-enum-known-closer
 enum-known-closer c = search needs
 
-store-requires-2 : tie.Need-store-requires-2
-store-requires-2 c κs = search needs
+set-requires-2 : tie.Need-set-requires-2
+set-requires-2 c κs = search needs
 
 enum-known-closer-2 : tie.Need-enum-known-closer-2
 enum-known-closer-2 c = search needs
 
-store-requires-3 : tie.Need-store-requires-3
-store-requires-3 c κs = search needs
+set-requires-3 : tie.Need-set-requires-3
+set-requires-3 c κs = search needs
 
 same-length : tie.Need-same-length
 same-length c = search needs
@@ -135,7 +133,7 @@ returns-2 c =
     let d = n .before .before in
     let p = entry d .pre .0 in
     let s = says d _ (n .start .given .1) in
-    name-item _ _ (operators d) _ _ _ (k .kind .ensures) (part-characters (p .1) (p .2) (s .0) (s .1)) (s .2) (o .store-name .ensures)
+    name-item _ _ (operators d) _ _ _ (k .kind .ensures) (part-is (p .1) (p .2) (s .0) (s .1)) (s .2) (o .store-name .ensures)
 
 same-length-3 : tie.Need-same-length-3
 same-length-3 c = search needs
@@ -147,7 +145,7 @@ returns-3 c =
     let d = n .before .before in
     let p = entry d .pre .0 in
     number-item _ _ _ _ _ _ (says d _ (n .enum-told .given .1))
-    (number-noted _ _ _ _ _ (words-stored _ (roles-within (p .1) (p .2)) (o .store .ensures) refl refl refl refl))
+    (number-noted _ _ _ _ _ (words-stored _ (roles-within (p .1) (p .2)) (o .set .ensures) refl refl refl refl))
 
 same-length-4 : tie.Need-same-length-4
 same-length-4 c = search needs
@@ -159,7 +157,7 @@ returns-4 c =
     let d = n .before .before in
     let p = entry d .pre .0 in
     let s = says d _ (n .closer .given .1) in
-    let w = words-stored _ (roles-within (p .1) (p .2)) (o .store2 .ensures) refl refl refl refl in
+    let w = words-stored _ (roles-within (p .1) (p .2)) (o .set2 .ensures) refl refl refl refl in
     (s .0, s .1, w .arrives, w .kept)
 
 same-length-5 : tie.Need-same-length-5
@@ -172,7 +170,7 @@ returns-5 c =
     let d = n .before .before in
     let p = entry d .pre .0 in
     let s = says d _ (n .closer2 .given .1) in
-    let w = words-stored _ (roles-within (p .1) (p .2)) (o .store3 .ensures) refl refl refl refl in
+    let w = words-stored _ (roles-within (p .1) (p .2)) (o .set3 .ensures) refl refl refl refl in
     (s .0, s .1, w .arrives, w .kept)
 
 pub note-spec : {M : Type 1} → statement M
@@ -190,11 +188,11 @@ note-spec =
     part-store-name-end
     store-name-requires
     enum-told
-    store-requires
+    set-requires
     enum-known-closer
-    store-requires-2
+    set-requires-2
     enum-known-closer-2
-    store-requires-3
+    set-requires-3
     same-length
     returns
     same-length-2

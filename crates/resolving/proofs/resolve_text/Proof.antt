@@ -1,13 +1,26 @@
--- The table made is that of the starting operators, which meet the conditions. Assumes nothing.
-use mathlib.Core.Path.{_≡_, ap, subst, _∙_}
+-- Without blocks every token has the roles that it starts with. With blocks, the table made is that of the starting operators, which meet
+-- the conditions.
+use mathlib.Core.Path.{_≡_, refl, ap, subst, _∙_}
 use borrow.Author.Needs.{needs}
 use Rattle.grammar.specs.Operator.{lawfulTable}
 use Rattle.grammar.specs.Declaration.{startTable}
 use Rattle.grammar.proofs.Operators.{distinct-start}
 use Rattle.grammar.proofs.ConditionsTest.{conditions-complete, conditions-start}
+use Rattle.operators.proofs.Roles.{failed}
 use Rattle.resolving.specs.Resolving.{Resolving}
+use Rattle.resolving.proofs.WithoutBlocks.{notable, blockless-resolves}
 use Rattle.resolving.proofs.resolve_text.Statement.{statement}
 use Rattle.resolving.proofs.resolve_text.Tie as tie
+
+note-all-requires : tie.Need-note-all-requires
+note-all-requires c κs = notable (c .before .before .before .before .before .pre .0)
+
+returns : tie.Need-returns
+returns c =
+    let n = c .before .before in
+    let b = n .before .before in
+    let p = b .before .before .before .before .pre in
+    blockless-resolves (p .0) _ (p .1 (failed refl (b .if1 .taken))) (n .note-all .ensures)
 
 new-requires : tie.Need-new-requires
 new-requires c κs = search needs
@@ -16,19 +29,31 @@ resolve-requires : tie.Need-resolve-requires
 resolve-requires c κs =
     let n = c .before .before .before .before in
     let (sound, table) = n .new .ensures _ in
-    (n .before .before .before .before .pre, record { sound = sound; lawful = ap lawfulTable table ∙ conditions-complete startTable distinct-start conditions-start })
+    (n .before .before .before .before .before .pre .0, record { sound = sound; lawful = ap lawfulTable table ∙ conditions-complete startTable distinct-start conditions-start })
 
 same-length : tie.Need-same-length
 same-length c = search needs
 
-returns : tie.Need-returns
-returns c =
+same-length-2 : tie.Need-same-length-2
+same-length-2 c = search needs
+
+returns-2 : tie.Need-returns-2
+returns-2 c =
     let r = c .before .before in
     let n = r .before .before .before .before .before in
-    let a = n .before .before .before .before .args in
+    let a = n .before .before .before .before .before .args in
     subst
     (λ T. Resolving (a .text .now) (a .tokens .now) T 0 (a .count) (a .roles .now) (r .resolve .last .1 .1 .1 .1 .1 .1 .1 .0) (r .resolve .result))
     (n .new .ensures _ .1) (r .resolve .ensures)
 
 pub resolve-text-spec : {M : Type 1} → statement M
-resolve-text-spec = tie.close (tie.spec new-requires resolve-requires same-length returns)
+resolve-text-spec =
+    tie.close
+    (tie.spec
+    note-all-requires
+    same-length
+    returns
+    new-requires
+    resolve-requires
+    same-length-2
+    returns-2)

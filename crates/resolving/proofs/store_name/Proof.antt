@@ -7,7 +7,8 @@ use borrow.Author.Needs.{needs}
 use Rattle.operators.specs.Entries.{codedFind, tableBy}
 use Rattle.operators.specs.declared.table.Found.the-variants.{At}
 use Rattle.operators.proofs.Lookups.{found-below}
-use Rattle.resolving.proofs.Noting.{words-stored, name-noted, listed-noted, unlisted-noted}
+use Rattle.rows.proofs.Noting.{words-stored}
+use Rattle.resolving.proofs.Noting.{name-noted, listed-noted, unlisted-noted}
 use Rattle.resolving.proofs.store_name.Statement.{statement}
 use Rattle.resolving.proofs.store_name.Tie as tie
 
@@ -41,8 +42,8 @@ infix-requires c κs = below (c .before .before .before)
 postfix-requires : tie.Need-postfix-requires
 postfix-requires c κs = below (c .before .before .before .before)
 
-store-requires : tie.Need-store-requires
-store-requires c κs = search needs
+set-requires : tie.Need-set-requires
+set-requires c κs = search needs
 
 same-length : tie.Need-same-length
 same-length c = search needs
@@ -57,13 +58,13 @@ returns c =
     let b = e .before .before .before in
     rw (b .if1 .taken)
     (listed-noted _ _ _ _ _ _ _ (found e) (start b .pre .1)
-    (words-stored _ (start b .pre .0) (s .store .ensures) (p .prefix .ensures) (i .«infix» .ensures) (q .postfix .ensures) refl))
+    (words-stored _ (start b .pre .0) (s .set .ensures) (p .prefix .ensures) (i .«infix» .ensures) (q .postfix .ensures) refl))
 
 enum-told : tie.Need-enum-told
 enum-told c = search needs
 
-store-requires-2 : tie.Need-store-requires-2
-store-requires-2 c κs = search needs
+set-requires-2 : tie.Need-set-requires-2
+set-requires-2 c κs = search needs
 
 same-length-2 : tie.Need-same-length-2
 same-length-2 c = search needs
@@ -73,7 +74,7 @@ returns-2 c =
     let s = c .before .before in
     let j = s .before .before in
     let p = j .before .before .before .before .pre in
-    let w = words-stored _ (p .0) (s .store2 .ensures) refl refl refl refl in
+    let w = words-stored _ (p .0) (s .set2 .ensures) refl refl refl refl in
     ⊎-elim
     (λ b. rw (b .0 .taken) (unlisted-noted _ _ _ _ _ _ (sym (b .1 .ensures) ∙ b .3 .given .1) w))
     (λ b. rw (b .left) (λ f. name-noted _ _ _ _ _ _ f w))
@@ -88,10 +89,10 @@ store-name-spec =
     prefix-requires
     infix-requires
     postfix-requires
-    store-requires
+    set-requires
     same-length
     returns
     enum-told
-    store-requires-2
+    set-requires-2
     same-length-2
     returns-2)

@@ -5,7 +5,8 @@ use native.Mathlib.Omega.{arith}
 use borrow.Author.Needs.{needs}
 use Rattle.rows.specs.Codes.{IsRole}
 use Rattle.operators.specs.Entries.{word}
-use Rattle.resolving.proofs.Noting.{words-stored, operator-noted}
+use Rattle.rows.proofs.Noting.{words-stored}
+use Rattle.resolving.proofs.Noting.{operator-noted}
 use Rattle.resolving.proofs.store_operator.Statement.{statement}
 use Rattle.resolving.proofs.store_operator.Tie as tie
 
@@ -31,8 +32,8 @@ arrival-requires c κs =
     let (text, H, count, sound, l) = s .pre .1 in
     rw (q .postfix .ensures, i .«infix» .ensures, p .prefix .ensures) (sound .roles (s .args .k) l)
 
-store-requires : tie.Need-store-requires
-store-requires c κs = search needs
+set-requires : tie.Need-set-requires
+set-requires c κs = search needs
 
 same-length : tie.Need-same-length
 same-length c = search needs
@@ -45,10 +46,10 @@ returns c text H count sound name found =
     let i = q .before in
     let p = i .before in
     operator-noted _ _ _ text _ name _ found sound
-    (words-stored _ (p .before .before .pre .0) (s .store .ensures) (p .prefix .ensures) (i .«infix» .ensures) (q .postfix .ensures)
+    (words-stored _ (p .before .before .pre .0) (s .set .ensures) (p .prefix .ensures) (i .«infix» .ensures) (q .postfix .ensures)
     (rw (p .prefix .ensures, i .«infix» .ensures, q .postfix .ensures) at (a .arrival .ensures)))
 
 pub store-operator-spec : {M : Type 1} → statement M
 store-operator-spec =
     tie.close
-    (tie.spec prefix-requires infix-requires postfix-requires arrival-requires store-requires same-length returns)
+    (tie.spec prefix-requires infix-requires postfix-requires arrival-requires set-requires same-length returns)

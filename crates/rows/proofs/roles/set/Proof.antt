@@ -1,8 +1,8 @@
 -- The four stores, one after the other. Assumes nothing.
 use mathlib.Core.Path.{_≡_}
 use borrow.Author.Needs.{needs}
-use Rattle.resolving.proofs.store.Statement.{statement}
-use Rattle.resolving.proofs.store.Tie as tie
+use Rattle.rows.proofs.roles.set.Statement.{statement}
+use Rattle.rows.proofs.roles.set.Tie as tie
 
 set-prefix-requires : tie.Need-set-prefix-requires
 set-prefix-requires c κs = search needs
@@ -27,7 +27,7 @@ returns c =
     let p = q .before .before .before .before in
     cc (a .set-arrival .ensures, s .set-postfix .ensures, q .set-infix .ensures, p .set-prefix .ensures)
 
-pub store-spec : {M : Type 1} → statement M
-store-spec =
+pub set-spec : {M : Type 1} → statement M
+set-spec =
     tie.close
     (tie.spec set-prefix-requires set-infix-requires set-postfix-requires set-arrival-requires same-length returns)

@@ -1,0 +1,4 @@
+pub mod ShortNames
+pub mod Numbers
+pub mod Roles
+pub mod NotedTokens

@@ -1,0 +1,53 @@
+-- The starting operators by number, and what a row of roles holds of a text in which no block declares others.
+use mathlib.Core.Path.{_≡_}
+use mathlib.Core.Bool.{true, false}
+use mathlib.Core.List.{List, [], _∷_}
+use mathlib.Core.Option.{none}
+use Prim.Native.Nat.{ℕ, zero, suc, _≤_, _<_}
+use lib.ListN.{length}
+use Rattle.grammar.specs.Bytes.{Bytes, same}
+use Rattle.grammar.specs.Operator.{Roles, Table}
+use Rattle.grammar.specs.Scan.{Placed}
+use Rattle.grammar.specs.Declaration.{startTable}
+use Rattle.rows.specs.Fields.{kind, arrival, Holds}
+use Rattle.rows.specs.Tokens.{atomIn, IsAtomKind, Stored}
+use Rattle.rows.specs.Agreeing.{Noted, KeptOutside}
+
+-- The number of the operator that has the name, as many as there are if none has it; and the roles of the operator with a number.
+unfoldable pub numberIn : Table → Bytes → ℕ
+numberIn [] name = 0
+numberIn (o ∷ T) name = elim (same name (o .name)) [ true ↦ 0 | false ↦ suc (numberIn T name) ]
+
+unfoldable pub rolesAt : Table → ℕ → Roles
+rolesAt [] n f = none
+rolesAt (o ∷ T) zero f = o .roles f
+rolesAt (o ∷ T) (suc n) f = rolesAt T n f
+
+-- Those of the starting operators.
+unfoldable pub startNumber : Bytes → ℕ
+startNumber name = numberIn startTable name
+
+unfoldable pub startRoles : ℕ → Roles
+startRoles n = rolesAt startTable n
+
+-- `n` tokens of the text, with a row for their roles.
+pub record Notable (text : Bytes) (K R : List ℕ) (n : ℕ) : Type 0 where
+  pub placed : List Placed
+  pub stored : Stored text placed K
+  pub within : n ≤ length placed
+  pub tokens : Holds 4 K n
+  pub roles : Holds 4 R n
+
+-- Token `i` has the roles of an atom under the starting operators, or is no operator.
+pub record NotedToken (text : Bytes) (K R : List ℕ) (i : ℕ) : Type 0 where
+  pub atoms : IsAtomKind (kind K i) → Noted startTable R i (atomIn text K i)
+  pub others : (IsAtomKind (kind K i) → ⊥) → arrival R i ≡ 0
+
+-- So it is noted of one token, and of `n`; the rest of the row is as it was.
+pub record NotesToken (text : Bytes) (K R : List ℕ) (i : ℕ) (R′ : List ℕ) : Type 0 where
+  pub noted : NotedToken text K R′ i
+  pub kept : KeptOutside R i (suc i) R′
+
+pub record NotesAll (text : Bytes) (K : List ℕ) (n : ℕ) (R R′ : List ℕ) : Type 0 where
+  pub noted : (j : ℕ) → j < n → NotedToken text K R′ j
+  pub kept : KeptOutside R 0 n R′
