@@ -1,5 +1,5 @@
 pub mod Nodes
 pub mod Over
+pub mod Parts
 pub mod Shapes
-pub mod Cases
 pub mod Steps

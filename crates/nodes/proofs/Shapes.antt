@@ -1,11 +1,12 @@
--- Which tree stands there, as the builder's tests see it: the kind of its root's token and the roots of its operands settle its shape, and
--- with it which parts it has and the words of its last node.
+-- The children of a tree that stands in the rows are its parts as the builder's tests see them: what its root's token has as first and
+-- second part. The words of its last node go by the same tests.
 use mathlib.Core.Path.{_≡_, refl, sym, _∙_}
 use mathlib.Core.Bool.{Bool, true, false, _||_}
-use mathlib.Core.List.{List, [], _++_}
+use mathlib.Core.List.{List, _++_, append-assoc, append-nil}
 use mathlib.Core.Option.{some}
 use Prim.Native.Nat.{ℕ, zero, suc, pred, _+_, _-_, _*_, _≤_, _<_}
 use native.Mathlib.Numerals.{add-one}
+use native.Mathlib.Nat.{add-zero}
 use native.Mathlib.Omega.{arith}
 use lib.ListN.{length, length-append}
 use Rattle.grammar.specs.Bytes.{Bytes}
@@ -14,15 +15,38 @@ use Rattle.grammar.specs.Operator.{Fixity, Prefix, Infix, Postfix}
 use Rattle.grammar.specs.Declaration.{Declaration, allTokens}
 use Rattle.grammar.specs.SpanTree.{SpanTree, present, fixity, fixityBy}
 use Rattle.grammar.specs.Tree.{Tree, nothing, leaf, bracket, block, node, flat, spanTree}
-use Rattle.grammar.specs.Nodes.{leafKind, count, nodeWords, operatorWords, words}
+use Rattle.grammar.specs.Nodes.{leafKind, count, operatorWords, words}
 use Rattle.grammar.specs.Coded.{kindOf}
 use Rattle.grammar.proofs.Logic.{impossible}
 use Rattle.grammar.proofs.Operands.{Operated, words-length}
 use Rattle.grammar.proofs.WordsOffsets.{block-size}
-use Rattle.rows.specs.Fields.{kind, start, size, closer, left, right}
+use Rattle.rows.specs.Fields.{kind, start, left, right}
 use Rattle.rows.specs.Standing.{mark, Rooted, Tokened}
-use Rattle.nodes.specs.Node.{atomKind, tokenWords, atomWords}
+use Rattle.nodes.specs.Node.{atomKind}
+use Rattle.nodes.specs.First.{openerOf, operandPart, firstPart}
 use Rattle.nodes.specs.Building.{Stands}
+use Rattle.nodes.specs.declared.build.Part.{Part}
+use Rattle.nodes.specs.declared.build.Part.the-variants.{Nothing, Of}
+use Rattle.nodes.proofs.Parts.{
+  prefix-words,
+  infix-words,
+  opener-bracket,
+  opener-block,
+  operand-none,
+  operand-some,
+  secondPart,
+  lastWords,
+  first-span,
+  second-none,
+  last-bracket,
+  last-block,
+  first-left,
+  second-right,
+  second-absent,
+  last-atom,
+  last-postfix,
+  last-right,
+}
 
 -- A tree with no mark is not there, and one with a mark is: its root is among its tokens, and it has a node.
 unmarked : (i : ℕ) (t : Tree) → mark i t ≡ 0 → t ≡ nothing
@@ -109,6 +133,32 @@ no-operand : present (spanTree nothing) || present (spanTree nothing) ≡ true �
 unfolding present spanTree
 no-operand e = impossible cc
 
+-- The children of a tree, `nothing` for one that is missing, and where the tokens of the first begin; those of the second begin behind the
+-- root's token. Their words come before those of the last node.
+unfoldable pub firstOf : Tree → Tree
+firstOf nothing = nothing
+firstOf (leaf a) = nothing
+firstOf (bracket t) = t
+firstOf (block ds t) = t
+firstOf (node l m r) = l
+
+unfoldable pub secondOf : Tree → Tree
+secondOf nothing = nothing
+secondOf (leaf a) = nothing
+secondOf (bracket t) = nothing
+secondOf (block ds t) = nothing
+secondOf (node l m r) = r
+
+unfoldable pub firstFrom : ℕ → Tree → ℕ
+firstFrom i nothing = i
+firstFrom i (leaf a) = i
+firstFrom i (bracket t) = suc i
+firstFrom i (block ds t) = suc (suc (i + length (allTokens ds)))
+firstFrom i (node l m r) = i
+
+abbrev pub childrenWords : (ℕ → ℕ) → Tree → ℕ → ℕ → List ℕ
+childrenWords places t i n = words places (firstOf t) (firstFrom i t) n ++ words places (secondOf t) (mark i t) (n + count (firstOf t))
+
 module _ (places : ℕ → ℕ) (K O : List ℕ) where
   -- Every operator that stands there has an operand, so there are five words to a node.
   tokened-operated : (i : ℕ) (t : Tree) → Tokened places K i t → Operated t
@@ -137,84 +187,73 @@ module _ (places : ℕ → ℕ) (K O : List ℕ) where
   pub stands-size : {from at to : ℕ} {t : Tree} → Stands places K O from at to t → (n : ℕ) → length (words places t from n) ≡ count t * 5
   stands-size {from} {at} {to} {t} s n = omega (arith, words-length places t from n (tokened-operated from t (s .tokened)))
 
-  -- A part of the tree that stands from `from` to `to`: it has fewer tokens and nodes.
-  pub record Part (from to : ℕ) (t : Tree) (from′ at′ to′ : ℕ) : Type 0 where
-    pub part : Tree
-    pub stands : Stands places K O from′ at′ to′ part
-    pub fewer : count part < count t
+  -- A child of the tree that stands from `from` to `to`: it has fewer tokens and nodes.
+  pub record Child (from to : ℕ) (t : Tree) (from′ at′ to′ : ℕ) (u : Tree) : Type 0 where
+    pub stands : Stands places K O from′ at′ to′ u
+    pub fewer : count u < count t
     pub falls : to′ - from′ < to - from
     pub within : to′ ≤ to
 
-  -- A tree with a lone child, and a last node of kind `k` with the offset `o` and the length `s`.
-  pub record Lone (from to : ℕ) (t : Tree) (from′ at′ to′ k o s : ℕ) : Type 0 where
-    pub child : Part from to t from′ at′ to′
-    pub nodes : count t ≡ count (child .part) + 1
-    pub text : (n : ℕ) → words places t from n ≡ words places (child .part) from′ n ++ nodeWords k (n + count (child .part) - 1) 0 o s
+  -- The child `u`, whose tokens begin at `i`, stands in its part; where there is no part the child is missing.
+  abbrev pub StandsIn : ℕ → ℕ → Tree → ℕ → Tree → Part → Type 0
+  StandsIn from to t i u Nothing = u ≡ nothing
+  StandsIn from to t i u (Of from′ at′ to′) = (from′ ≡ i) × Child from to t from′ at′ to′ u
 
-  -- A tree of an infix operator at token `at`.
-  pub record Two (from at to : ℕ) (t : Tree) (at₁ at₂ : ℕ) : Type 0 where
-    pub first : Part from to t from at₁ at
-    pub second : Part from to t (at + 1) at₂ to
-    pub nodes : count t ≡ count (first .part) + count (second .part) + 1
+  -- The opener of a bracket pair or a block.
+  pub record Opened (at to o : ℕ) : Type 0 where
+    pub starts : ((i j : ℕ) → i ≤ j → j ≤ to → places i ≤ places j) → start K at ≤ start K o
+    pub within : o < to
+    pub root : 1 ≤ left O o
+
+  pub record Shape (from at to : ℕ) (t : Tree) : Type 0 where
+    pub opened : 3 < kind K at → Opened at to (openerOf K at)
+    pub first : StandsIn from to t (firstFrom from t) (firstOf t) (firstPart K O from at)
+    pub second : StandsIn from to t (mark from t) (secondOf t) (secondPart K O at to)
+    pub nodes : count t ≡ count (firstOf t) + count (secondOf t) + 1
     pub text : (n : ℕ) → words places t from n
-        ≡ words places (first .part) from n
-        ++ (words places (second .part) (at + 1) (n + count (first .part))
-        ++ tokenWords 4 (n + count (first .part) - 1) (n + (count (first .part) + count (second .part)) - 1) K at)
-
-  -- A tree of one atom.
-  pub record Atomic (from at : ℕ) (t : Tree) : Type 0 where
-    pub nodes : count t ≡ 1
-    pub text : (n : ℕ) → words places t from n ≡ atomWords K at
-
-  -- Where a block's `let` and its `in` stand.
-  pub record Opened (at to c : ℕ) : Type 0 where
-    pub starts : start K at ≡ places at
-    pub opens : start K c ≡ places c
-    pub order : at ≤ c
-    pub within : c < to
-    pub root : 1 ≤ left O c
-
-  pub data Shape (from at to : ℕ) (t : Tree) : Type 0 where
-    atomic : kind K at ≤ 3 → left O at ≡ 0 → right O at ≡ 0 → Atomic from at t → Shape from at to t
-    bracketed : kind K at ≡ 4 → 1 ≤ left O at → Lone from to t (at + 1) (left O at - 1) (closer K at) 6 0 0 → Shape from at to t
-    blocked : (c : ℕ) → kind K at ≡ 7 → closer K at ≡ c → Opened at to c
-        → Lone from to t (c + 1) (left O c - 1) (closer K c) 7 (start K at) (start K c + 2 - start K at) → Shape from at to t
-    prefixed : kind K at ≡ 1 → left O at ≡ 0 → 1 ≤ right O at → Lone from to t (at + 1) (right O at - 1) to 3 (start K at) (size K at)
-        → Shape from at to t
-    postfixed : kind K at ≡ 1 → 1 ≤ left O at → right O at ≡ 0 → Lone from to t from (left O at - 1) at 5 (start K at) (size K at)
-        → Shape from at to t
-    between : kind K at ≡ 1 → 1 ≤ left O at → 1 ≤ right O at → Two from at to t (left O at - 1) (right O at - 1) → Shape from at to t
+        ≡ childrenWords places t from n ++ lastWords K O at n (count (firstOf t)) (count (firstOf t) + count (secondOf t))
 
   leaf-shape : (a : Atom) {from to : ℕ} → Stands places K O from from to (leaf a) → Shape from from to (leaf a)
-  unfolding count words
-  leaf-shape a s =
+  unfolding count words firstOf secondOf
+  leaf-shape a {from} {to} s =
       let k = s .tokened in
-      atomic (omega (arith, atom-low a, k .0)) (s .rooted .0) (s .rooted .1)
-      (record { nodes = refl; text = λ n. rw (k .0, k .1, k .2, leaf-kind a) })
+      let is-atom : kind K from ≤ 3 = omega (arith, atom-low a, k .0) in
+      record {
+        opened = λ h. absurd (omega arith);
+        first = rw (first-left K O from is-atom from, operand-none (left O from) from from (s .rooted .0));
+        second = rw (second-absent K O from is-atom to (s .rooted .1));
+        nodes = refl;
+        text = λ n. rw (last-atom K O from is-atom (s .rooted .1) n 0 0 refl, k .0, k .1, k .2, leaf-kind a);
+      }
 
   bracket-shape : (t : Tree) {from to : ℕ} → Stands places K O from from to (bracket t) → Shape from from to (bracket t)
-  unfolding count words
+  unfolding count words firstOf secondOf firstFrom
   bracket-shape t {from} {to} s =
       let k = s .tokened in
       let o = s .rooted in
       let m = present-marked (suc from) t (k .2) in
       let z = bracket-size t in
       let e = s .end in
-      bracketed (k .0) (omega (arith, o .0))
-      (record {
-        child = record {
-          part = t;
-          stands = stand (suc from) t (k .3) (o .1) (sym (add-one from)) (omega (arith, o .0)) (omega (arith, k .1));
-          fewer = omega arith;
-          falls = omega (arith, k .1);
-          within = omega (arith, k .1);
-        };
-        nodes = refl;
-        text = λ n. rw (add-one, last-one);
-      })
+      let is-structure : 3 < kind K from = omega (arith, k .0) in
+      let opener = opener-bracket K from (k .0) in
+      record {
+        opened = λ h. rw opener (record { starts = λ up. omega arith; within = omega arith; root = omega (arith, o .0) });
+        first = rw (first-span K O from is-structure from, opener) (
+          add-one from,
+          record {
+            stands = stand (suc from) t (k .3) (o .1) (sym (add-one from)) (omega (arith, o .0)) (omega (arith, k .1));
+            fewer = omega arith;
+            falls = omega (arith, k .1);
+            within = omega (arith, k .1);
+          },
+        );
+        second = rw (second-none K O from is-structure to);
+        nodes = omega arith;
+        text = λ n. rw (last-bracket K O from is-structure (k .0) n (count t) (count t + 0), append-nil, add-zero (count t), last-one (n + count t));
+      }
 
   block-shape : (ds : List Declaration) (t : Tree) {from to : ℕ} → Stands places K O from from to (block ds t) → Shape from from to (block ds t)
-  unfolding count words
+  unfolding count words firstOf secondOf firstFrom
   block-shape ds t {from} {to} s =
       let c = suc (from + length (allTokens ds)) in
       let k = s .tokened in
@@ -222,109 +261,131 @@ module _ (places : ℕ → ℕ) (K O : List ℕ) where
       let m = present-marked (suc c) t (k .5) in
       let z = block-size ds t in
       let e = s .end in
-      blocked c (k .0) (k .2) (record { starts = k .1; opens = k .3; order = omega arith; within = omega arith; root = omega (arith, o .0) })
-      (record {
-        child = record {
-          part = t;
-          stands = stand (suc c) t (k .6) (o .1) (sym (add-one c)) (omega (arith, o .0)) (omega (arith, k .4));
-          fewer = omega arith;
-          falls = omega (arith, k .4);
-          within = omega (arith, k .4);
-        };
-        nodes = refl;
-        text = λ n. rw (k .1, k .3, add-one, last-one);
-      })
+      let is-structure : 3 < kind K from = omega (arith, k .0) in
+      let opener : openerOf K from ≡ c = opener-block K from (λ e. omega (arith, k .0)) ∙ k .2 in
+      record {
+        opened = λ h. rw opener (record {
+          starts = λ up. omega (arith, k .1, k .3, up from c (omega arith) (omega arith));
+          within = omega arith;
+          root = omega (arith, o .0);
+        });
+        first = rw (first-span K O from is-structure from, opener) (
+          add-one c,
+          record {
+            stands = stand (suc c) t (k .6) (o .1) (sym (add-one c)) (omega (arith, o .0)) (omega (arith, k .4));
+            fewer = omega arith;
+            falls = omega (arith, k .4);
+            within = omega (arith, k .4);
+          },
+        );
+        second = rw (second-none K O from is-structure to);
+        nodes = omega arith;
+        text = λ n.
+            rw (
+              last-block K O from is-structure (λ e. omega (arith, k .0)) n (count t) (count t + 0),
+              opener,
+              k .1,
+              k .3,
+              append-nil,
+              add-zero (count t),
+              last-one (n + count t),
+            );
+      }
 
-  -- The last node of an operator by the operands that there are.
   module _ (l : Tree) (m : Bytes) (r : Tree) {from to : ℕ} (s : Stands places K O from (from + length (flat l)) to (node l m r)) where
     abbrev place : ℕ
     place = from + length (flat l)
 
-    left-part : 1 ≤ mark from l → Part from to (node l m r) from (left O place - 1) place
-    unfolding count
-    left-part h =
-        let z = node-size l m r in
-        let e = s .end in
-        let g = marked from l h in
-        record {
-          part = l;
-          stands = stand from l (s .tokened .4) (s .rooted .2) refl (omega (arith, s .rooted .0)) refl;
-          fewer = omega arith;
-          falls = omega (arith, g .first, g .last);
-          within = omega arith;
-        }
+    abbrev last : ℕ → Type 0
+    last n =
+        operatorWords (fixity (spanTree l) (spanTree r)) (pred (n + count l)) (pred (n + count l + count r)) (places place) (length m)
+        ≡ lastWords K O place n (count l) (count l + count r)
 
-    right-part : 1 ≤ mark (suc place) r → Part from to (node l m r) (place + 1) (right O place - 1) to
-    unfolding count
-    right-part h =
-        let z = node-size l m r in
-        let e = s .end in
-        record {
-          part = r;
-          stands = stand (suc place) r (s .tokened .5) (s .rooted .3) (sym (add-one place)) (omega (arith, s .rooted .1)) (omega arith);
-          fewer = omega arith;
-          falls = omega arith;
-          within = omega arith;
-        }
+    is-atom : kind K place ≤ 3
+    is-atom = omega (arith, s .tokened .0)
 
-    node-text : (f : Fixity) → fixity (spanTree l) (spanTree r) ≡ some f → (n : ℕ)
-        → words places (node l m r) from n
-        ≡ words places l from n
-        ++ (words places r (place + 1) (n + count l)
-        ++ operatorWords (some f) (n + count l - 1) (n + (count l + count r) - 1) (start K place) (size K place))
-    unfolding words
-    node-text f e n = rw (s .tokened .1, s .tokened .2, e, add-one, last-one (n + count l), last-two n (count l) (count r))
+    -- An operand stands in its part, or it is missing.
+    operand-stands :
+        (u : Tree) (i x from′ to′ : ℕ) → Tokened places K i u → Rooted O i u → x ≡ mark i u → from′ ≡ i → to′ ≡ i + length (flat u)
+        → count u < count (node l m r) → to′ - from′ < to - from → to′ ≤ to → StandsIn from to (node l m r) i u (operandPart x from′ to′)
+    operand-stands u i x from′ to′ k o e f g fewer falls within = go x refl
+      where
+        go : (y : ℕ) → x ≡ y → StandsIn from to (node l m r) i u (operandPart x from′ to′)
+        go zero p = rw (operand-none x from′ to′ p) (unmarked i u (sym e ∙ p))
+        go (suc y) p =
+            rw (operand-some x from′ to′ (λ q. omega arith))
+            (f, record { stands = stand i u k o (sym f) (omega arith) g; fewer = fewer; falls = falls; within = within })
 
-    prefix-shape : mark from l ≡ 0 → 1 ≤ mark (suc place) r → Shape from place to (node l m r)
-    unfolding count words operatorWords fixityBy left-part right-part
-    prefix-shape p h =
+    -- The last node of an operator by the operands that there are.
+    prefix-last : mark from l ≡ 0 → 1 ≤ mark (suc place) r → (n : ℕ) → last n
+    unfolding operatorWords count fixityBy
+    prefix-last p h n =
         let e = unmarked from l p in
         let none : count l ≡ 0 = rw e in
         let f = formed-of l r false true (rw e absent) (marked (suc place) r h .there) in
-        prefixed (s .tokened .0) (s .rooted .0 ∙ p) (omega (arith, s .rooted .1))
-        (record {
-          child = right-part h;
-          nodes = omega arith;
-          text = λ n.
-              let z : n + count l ≡ n = omega arith in
-              let y : count l + count r ≡ count r = omega arith in
-              let w : words places l from n ≡ [] = rw e in
-              node-text Prefix f n ∙ rw (w, z, y);
-        })
+        rw (
+          last-right K O place is-atom (λ q. omega (arith, s .rooted .1)) n (count l) (count l + count r),
+          prefix-words n (count l) (count l + count r) K place none,
+          f,
+          s .tokened .1,
+          s .tokened .2,
+          last-two n (count l) (count r),
+        )
 
-    postfix-shape : 1 ≤ mark from l → mark (suc place) r ≡ 0 → Shape from place to (node l m r)
-    unfolding count words operatorWords fixityBy left-part right-part
-    postfix-shape h q =
+    postfix-last : 1 ≤ mark from l → mark (suc place) r ≡ 0 → (n : ℕ) → last n
+    unfolding operatorWords count fixityBy
+    postfix-last h q n =
         let e = unmarked (suc place) r q in
-        let none : count r ≡ 0 = rw e in
+        let none : count l + count r ≡ count l = rw (e, add-zero (count l)) in
         let f = formed-of l r true false (marked from l h .there) (rw e absent) in
-        postfixed (s .tokened .0) (omega (arith, s .rooted .0)) (s .rooted .1 ∙ q)
-        (record {
-          child = left-part h;
-          nodes = omega arith;
-          text = λ n.
-              let w : words places r (place + 1) (n + count l) ≡ [] = rw e in
-              node-text Postfix f n ∙ rw w;
-        })
+        rw (
+          last-postfix K O place is-atom (s .rooted .1 ∙ q) n (count l) (count l + count r) (λ z. omega (arith, marked from l h .some)),
+          f,
+          s .tokened .1,
+          s .tokened .2,
+          none,
+          last-one (n + count l),
+        )
 
-    infix-shape : 1 ≤ mark from l → 1 ≤ mark (suc place) r → Shape from place to (node l m r)
-    unfolding count words operatorWords fixityBy left-part right-part
-    infix-shape h g =
+    infix-last : 1 ≤ mark from l → 1 ≤ mark (suc place) r → (n : ℕ) → last n
+    unfolding operatorWords fixityBy
+    infix-last h g n =
         let f = formed-of l r true true (marked from l h .there) (marked (suc place) r g .there) in
-        between (s .tokened .0) (omega (arith, s .rooted .0)) (omega (arith, s .rooted .1))
-        (record { first = left-part h; second = right-part g; nodes = refl; text = node-text Infix f })
+        rw (
+          last-right K O place is-atom (λ q. omega (arith, s .rooted .1)) n (count l) (count l + count r),
+          infix-words n (count l) (count l + count r) K place (λ z. omega (arith, marked from l h .some)),
+          f,
+          s .tokened .1,
+          s .tokened .2,
+          last-one (n + count l),
+          last-two n (count l) (count r),
+        )
 
-    none-shape : l ≡ nothing → r ≡ nothing → Shape from place to (node l m r)
-    none-shape e f = absurd (no-operand (rw (e, f) at (s .tokened .3)))
+    node-last : (n : ℕ) → last n
+    node-last n = go (mark from l) refl (mark (suc place) r) refl
+      where
+        go : (x : ℕ) → mark from l ≡ x → (y : ℕ) → mark (suc place) r ≡ y → last n
+        go zero p zero q = absurd (no-operand (rw (unmarked from l p, unmarked (suc place) r q) at (s .tokened .3)))
+        go zero p (suc y) q = prefix-last p (omega arith) n
+        go (suc x) p zero q = postfix-last (omega arith) q n
+        go (suc x) p (suc y) q = infix-last (omega arith) (omega arith) n
 
     node-shape : Shape from place to (node l m r)
-    node-shape = go (mark from l) refl (mark (suc place) r) refl
-      where
-        go : (x : ℕ) → mark from l ≡ x → (y : ℕ) → mark (suc place) r ≡ y → Shape from place to (node l m r)
-        go zero p zero q = none-shape (unmarked from l p) (unmarked (suc place) r q)
-        go zero p (suc y) q = prefix-shape p (omega arith)
-        go (suc x) p zero q = postfix-shape (omega arith) q
-        go (suc x) p (suc y) q = infix-shape (omega arith) (omega arith)
+    unfolding count words firstOf secondOf firstFrom mark
+    node-shape =
+        let z = node-size l m r in
+        let e = s .end in
+        let k = s .tokened in
+        let o = s .rooted in
+        record {
+          opened = λ h. absurd (omega (arith, is-atom));
+          first = rw (first-left K O place is-atom from)
+              (operand-stands l from (left O place) from place (k .4) (o .2) (o .0) refl refl (omega arith) (omega arith) (omega arith));
+          second = rw (second-right K O place is-atom to)
+              (operand-stands r (suc place) (right O place) (place + 1) to (k .5) (o .3) (o .1) (add-one place) (omega arith) (omega arith) (omega arith) (omega arith));
+          nodes = refl;
+          text = λ n. rw (node-last n, append-assoc);
+        }
 
   pub shape : {from at to : ℕ} (t : Tree) → Stands places K O from at to t → Shape from at to t
   unfolding mark

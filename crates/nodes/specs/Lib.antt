@@ -1,2 +1,3 @@
 pub mod Node
+pub mod First
 pub mod Building

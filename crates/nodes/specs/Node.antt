@@ -6,7 +6,7 @@ use Prim.Native.Nat.{ℕ, _+_, _-_, _*_, _≤_, _<_}
 use lib.Dec.{leb, eqb}
 use lib.ListN.{length}
 use lib.Seq.{sets}
-use Rattle.grammar.specs.Nodes.{nodeWords, nameKind, numberKind, blockKind, wordsPerNode}
+use Rattle.grammar.specs.Nodes.{nodeWords, nameKind, numberKind, prefixKind, infixKind, blockKind, wordsPerNode}
 use Rattle.rows.specs.Fields.{kind, start, size, left, right}
 
 -- The words of a node with the characters of token number `i`; of an atom's node, whose kind goes by that of its token; and of the node of
@@ -22,6 +22,15 @@ atomWords K i = tokenWords (atomKind (kind K i)) 0 0 K i
 
 abbrev pub blockWords : ℕ → List ℕ → ℕ → ℕ → List ℕ
 blockWords first K i c = nodeWords blockKind first 0 (start K i) (start K c + 2 - start K i)
+
+-- The words of the node of an operator with an operand on its right, `n` nodes from number `base` on before it, `l` of them those of an
+-- operand on its left: a prefix operator where there are none.
+unfoldable pub prefixOrInfixWords : ℕ → ℕ → ℕ → List ℕ → ℕ → List ℕ
+prefixOrInfixWords base l n K i =
+    elim (eqb l 0) [
+      | true ↦ tokenWords prefixKind (base + n - 1) 0 K i
+      | false ↦ tokenWords infixKind (base + l - 1) (base + n - 1) K i
+    ]
 
 -- Token number `i` is an atom without operands.
 unfoldable pub standsAlone : List ℕ → List ℕ → ℕ → Bool

@@ -1,5 +1,5 @@
 // The builder calls itself on the tokens left and right of the root; each operand's nodes go into a lent part of the node table behind those
-// of its left sibling.
+// of its left sibling. It calls itself at two places only: each costs stack in every frame.
 use crate::node;
 use rows::kinds;
 use rows::roots as roots_row;
@@ -8,6 +8,7 @@ ghost use mathlib.Core.Path.{_≡_};
 ghost use Prim.Native.Nat.{_-_, _≤_};
 ghost use Rattle.rows.specs.Fields.{Within, left};
 ghost use Rattle.nodes.specs.Node.{standsAlone};
+ghost use Rattle.nodes.specs.First.{openerOf, HasFirst, firstPart};
 ghost use Rattle.nodes.specs.Building.{Buildable, Built};
 
 // Whether the token at `at` stands over nothing: an atom that is no operator.
@@ -24,6 +25,17 @@ fn is_leaf(tokens: &[u16], roots: &[u16], at: usize) -> bool
     roots_row::right(roots, at) == 0
 }
 
+// The token that opens the span of a bracket pair or a block: the `(`, or the block's `in`.
+fn opener(tokens: &[u16], at: usize) -> usize
+    requires { ⌜ Within 4 (now tokens) at ⌝ }
+    ensures { λ r. ⌜ r ≡ openerOf (now (tokens .entry)) at ⌝ }
+{
+    if tokens_row::kind(tokens, at) == kinds::OPENING {
+        return at;
+    }
+    tokens_row::closer(tokens, at)
+}
+
 // The root of the span that the token at `at` opens, a `(` or an `in`.
 fn inside(roots: &[u16], at: usize) -> usize
     requires { ⌜ Within 2 (now roots) at × (1 ≤ left (now roots) at) ⌝ }
@@ -31,6 +43,36 @@ fn inside(roots: &[u16], at: usize) -> usize
 {
     let root = roots_row::left(roots, at);
     root - 1
+}
+
+// A part of the tokens that has a tree of its own, with its root; or none.
+pub enum Part {
+    Nothing,
+    Of { from: usize, root: usize, to: usize },
+}
+
+// What is built first below the token at `at`: what a bracket pair or a block holds, or the left operand of an operator.
+fn first(tokens: &[u16], roots: &[u16], kind: u16, from: usize, at: usize) -> Part
+    requires { ⌜ HasFirst (now tokens) (now roots) kind at ⌝ }
+    ensures { λ r. ⌜ r ≡ firstPart (now (tokens .entry)) (now (roots .entry)) from at ⌝ }
+{
+    if kinds::QUOTED < kind {
+        let o = opener(tokens, at);
+        return Part::Of {
+            from: o + 1,
+            root: inside(roots, o),
+            to: tokens_row::closer(tokens, o),
+        };
+    }
+    let left = roots_row::left(roots, at);
+    if left == 0 {
+        return Part::Nothing;
+    }
+    Part::Of {
+        from,
+        root: left - 1,
+        to: at,
+    }
 }
 
 // Writes the nodes of the tokens from `from` to `to`, whose root is `at`, and answers how many they are; `base` nodes stand before.
@@ -47,34 +89,34 @@ pub fn build(
     ensures { λ r. ⌜ Built (now (tokens .entry)) (now (roots .entry)) from at to (now (nodes .entry)) base (now (nodes .exit)) r ⌝ }
 {
     let kind = tokens_row::kind(tokens, at);
-    if kind == kinds::OPENING {
-        let c = tokens_row::closer(tokens, at);
-        let n = build(tokens, roots, at + 1, inside(roots, at), c, nodes, base);
-        return node::bracket(base, n, nodes);
+    let mut l: usize = 0;
+    match first(tokens, roots, kind, from, at) {
+        Part::Nothing => {}
+        Part::Of {
+            from: f,
+            root,
+            to: t,
+        } => {
+            l = build(tokens, roots, f, root, t, nodes, base);
+        }
     }
-    if kind == kinds::LET {
-        let c = tokens_row::closer(tokens, at);
-        let e = tokens_row::closer(tokens, c);
-        let n = build(tokens, roots, c + 1, inside(roots, c), e, nodes, base);
-        return node::block(tokens, at, c, base, n, nodes);
+    if kinds::QUOTED < kind {
+        if kind == kinds::OPENING {
+            return node::bracket(base, l, nodes);
+        }
+        return node::block(tokens, at, opener(tokens, at), base, l, nodes);
     }
-    let left = roots_row::left(roots, at);
     let right = roots_row::right(roots, at);
-    if left == 0 {
-        if right == 0 {
+    if right == 0 {
+        if l == 0 {
             return node::leaf(tokens, at, nodes);
         }
-        let n = build(tokens, roots, at + 1, right - 1, to, nodes, base);
-        return node::unary(tokens, at, node::PREFIX, base, n, nodes);
-    }
-    let l = build(tokens, roots, from, left - 1, at, nodes, base);
-    if right == 0 {
         return node::unary(tokens, at, node::POSTFIX, base, l, nodes);
     }
     let after = l * node::WORDS;
     if is_leaf(tokens, roots, right - 1) {
         let r = node::leaf(tokens, right - 1, &mut nodes[after..]);
-        return node::infix(tokens, at, base, l, r, nodes);
+        return node::prefix_or_infix(tokens, at, base, l, r, nodes);
     }
     let r = build(
         tokens,
@@ -85,5 +127,5 @@ pub fn build(
         &mut nodes[after..],
         base + l,
     );
-    node::infix(tokens, at, base, l, r, nodes)
+    node::prefix_or_infix(tokens, at, base, l, r, nodes)
 }

@@ -6,7 +6,7 @@ ghost use Prim.Native.Nat.{_+_, _-_, _*_, _≤_};
 ghost use lib.Seq.{sets};
 ghost use Rattle.grammar.specs.Nodes.{nodeWords};
 ghost use Rattle.rows.specs.Fields.{Within, start};
-ghost use Rattle.nodes.specs.Node.{tokenWords, atomWords, blockWords, HasNode, IsWord, EndsInChild, Appended};
+ghost use Rattle.nodes.specs.Node.{tokenWords, atomWords, blockWords, prefixOrInfixWords, HasNode, IsWord, EndsInChild, Appended};
 
 pub const WORDS: usize = 5;
 
@@ -96,6 +96,24 @@ pub fn unary(tokens: &[u16], i: usize, kind: u32, base: usize, n: usize, nodes: 
 {
     put_token(nodes, n, kind, base + n - 1, 0, tokens, i);
     n + 1
+}
+
+// The node of an operator behind the `l` nodes of its left operand, 0 if it has none, and the `r` nodes of its right one.
+pub fn prefix_or_infix(
+    tokens: &[u16],
+    i: usize,
+    base: usize,
+    l: usize,
+    r: usize,
+    nodes: &mut [u32],
+) -> usize
+    requires { ⌜ Within 4 (now tokens) i × (1 ≤ r) × (base + (l + r) ≤ 4096) × HasNode (now nodes) (l + r) ⌝ }
+    ensures { λ a. ⌜ Appended (prefixOrInfixWords base l (l + r) (now (tokens .entry)) i) (now (nodes .entry)) (l + r) (now (nodes .exit)) a ⌝ }
+{
+    if l == 0 {
+        return unary(tokens, i, PREFIX, base, r, nodes);
+    }
+    infix(tokens, i, base, l, r, nodes)
 }
 
 // The node of a bracket pair behind the `n` nodes of its inside.

@@ -1,6 +1,5 @@
 pub mod Roles
 pub mod Hashes
-pub mod ShortNames
 pub mod Numbered
 pub mod TableEntries
 pub mod Searches

@@ -25,13 +25,13 @@ use Rattle.operators.specs.Entries.{
   tableOf,
   hashOf,
   Sound,
-  Starts,
 }
 use Rattle.operators.specs.declared.table.Found.{Found}
 use Rattle.operators.specs.declared.table.Found.the-variants.{At, Nothing}
 use Rattle.operators.specs.declared.table.Table.{Table}
 use Rattle.operators.proofs.Numbered.{from, place, place-within, place-none, place-at}
 use Rattle.operators.proofs.TableEntries.{name-at-start, start-room}
+use Rattle.operators.proofs.Starts.{Starts}
 
 -- The operator at an entry; a table's operators and the search of a name, by number.
 module _ (text : Bytes) (W : List ℕ) where
@@ -98,7 +98,7 @@ module _ (text : Bytes) (t : Table) where
             let p = rw (← same-eq name (nameAt text (t .words) j) e) at (sound .hinted j h) in absurd (omega arith)
         other j h false e = refl
 
-    -- A starting operator is at its own number, if its name is still there.
+    -- A starting operator is at its own number, if its name is still there; no name stands at the number of none.
     pub found-start :
         (name : Bytes) (k : ℕ) → k < t .count → Starts name k → nameStart (t .words) k ≡ longestText + k * 3 → Finds name (At k)
     found-start name k h (inl (b, e)) s =
@@ -109,4 +109,4 @@ module _ (text : Bytes) (t : Table) where
         e ∙ ap₂ (λ n m. take n (drop m startNames)) (sym (z ∙ ap startSize i)) at
         ∙ sym (name-at-start text (nameStart (t .words) k) (nameSize (t .words) k) (omega arith)) in
         found-named name k h (ap (same name) (sym q) ∙ same-refl name)
-    found-start name k h (inr e) s = let n = sound .sized in absurd (omega arith)
+    found-start name k h (inr e) s = let (l, c, p, z) = sound .atStart k h (omega arith) in absurd (omega arith)

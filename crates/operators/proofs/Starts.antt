@@ -1,12 +1,14 @@
 -- The table of the starting operators: what has to be computed of each of the eight entries, and that this makes the table sound.
-use mathlib.Core.Path.{_≡_, ap₂}
+-- A name with a number below 8 is the starting name at that number.
+use mathlib.Core.Path.{_≡_, refl, ap₂, _∙_}
 use mathlib.Core.Bool.{true, _&&_}
-use mathlib.Core.List.{_∷_}
+use mathlib.Core.Logic.{_⊎_, inl, inr}
+use mathlib.Core.List.{[], _∷_}
 use mathlib.Core.Option.{none, some}
 use Prim.Native.Nat.{ℕ, zero, suc, _+_, _*_, _≤_, _<_}
 use native.Mathlib.Omega.{arith}
 use lib.Dec.{leb}
-use lib.ListN.{getD}
+use lib.ListN.{take, drop, getD}
 use borrow.Author.Tests.{leb-true}
 use Rattle.grammar.specs.Fault.{longestText}
 use Rattle.grammar.specs.Bytes.{Bytes}
@@ -17,7 +19,9 @@ use Rattle.grammar.proofs.Logic.{and-left, and-right}
 use Rattle.grammar.proofs.Operators.{distinct-start, alive-start}
 use Rattle.rows.specs.Codes.{sideCode, roleCode, IsRole}
 use Rattle.rows.proofs.Codes.{code-role}
-use Rattle.operators.specs.Entries.{word, nameStart, nameSize, startSize, nameAt, tableOf, hashOf, Starting}
+use Rattle.starting_operators.specs.Starting.{startNumber}
+use Rattle.starting_operators.proofs.Numbers.{each, IsNumber, operator-names, start-name}
+use Rattle.operators.specs.Entries.{word, nameStart, nameSize, startNames, startSize, nameAt, tableOf, hashOf, Starting}
 use Rattle.operators.specs.declared.table.Table.{Table}
 use Rattle.operators.proofs.Numbered.{roles-equal, operators-equal}
 
@@ -53,17 +57,6 @@ AllStarted text t =
     Started text t 0 × Started text t 1 × Started text t 2 × Started text t 3 × Started text t 4 × Started text t 5 × Started text t 6
     × Started text t 7
 
-started : (text : Bytes) (t : Table) → AllStarted text t → (j : ℕ) → j < 8 → Started text t j
-started text t s zero h = s .0
-started text t s (suc zero) h = s .1
-started text t s (suc (suc zero)) h = s .2
-started text t s (suc (suc (suc zero))) h = s .3
-started text t s (suc (suc (suc (suc zero)))) h = s .4
-started text t s (suc (suc (suc (suc (suc zero))))) h = s .5
-started text t s (suc (suc (suc (suc (suc (suc zero)))))) h = s .6
-started text t s (suc (suc (suc (suc (suc (suc (suc zero))))))) h = s .7
-started text t s (suc (suc (suc (suc (suc (suc (suc (suc j)))))))) h = absurd (omega arith)
-
 -- One operator after the other, by its name and its roles.
 pub and :
     {o u : Operator} {T U : G.Table} → o .name ≡ u .name → o .roles Prefix ≡ u .roles Prefix → o .roles Infix ≡ u .roles Infix
@@ -87,4 +80,19 @@ starting t n e s text = (
 )
   where
     at : (j : ℕ) → j < t .count → Started text t j
-    at j h = started text t (s text) j (omega arith)
+    at j h = each (Started text t) (s text) j (omega arith)
+
+-- The number of a name, by the starting names; 8 if it is none of them.
+abbrev pub Starts : Bytes → ℕ → Type 0
+Starts name r = ((r < 8) × (name ≡ take (startSize r) (drop (3 * r) startNames))) ⊎ (r ≡ 8)
+
+pub start-spelled : (name : Bytes) (r : ℕ) → r ≡ startNumber name → Starts name r
+unfolding startSize
+start-spelled name r e = go (start-name name)
+  where
+    spelled : (k : ℕ) → k < 8 → getD operator-names k [] ≡ take (startSize k) (drop (3 * k) startNames)
+    spelled = each (λ k. getD operator-names k [] ≡ take (startSize k) (drop (3 * k) startNames)) (refl, refl, refl, refl, refl, refl, refl, refl)
+
+    go : IsNumber name operator-names (startNumber name) → Starts name r
+    go (inl n) = inr (e ∙ n)
+    go (inr (h, n)) = rw e (inl (h, n ∙ spelled (startNumber name) h))

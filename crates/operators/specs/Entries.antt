@@ -1,7 +1,6 @@
 -- The operators in force as words: the table that a struct stands for, over a text.
 use mathlib.Core.Path.{_≡_}
 use mathlib.Core.Bool.{true, false}
-use mathlib.Core.Logic.{_⊎_}
 use mathlib.Core.List.{List, [], _∷_}
 use mathlib.Core.Option.{some}
 use Prim.Native.Nat.{ℕ, zero, suc, _+_, _-_, _*_, _≤_, _<_}
@@ -106,10 +105,6 @@ Starting t = (text : Bytes) → Sound text t × (tableOf text t ≡ startTable)
 -- A name that can be looked for.
 abbrev pub IsName : Bytes → Type 0
 IsName name = 1 ≤ length name
-
--- The number of the starting operator with the name, or 64.
-abbrev pub Starts : Bytes → ℕ → Type 0
-Starts name r = ((r < 8) × (name ≡ take (startSize r) (drop (3 * r) startNames))) ⊎ (r ≡ 64)
 
 -- What is said of a name at once, where anything is.
 abbrev pub Quickly : Found → Quick → Type 0

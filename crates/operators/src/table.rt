@@ -1,20 +1,16 @@
 // The operators in force, by value: five words to an operator, and hints where a name stands.
 use crate::conditions;
 use rows::role;
+use starting_operators::number;
 ghost use mathlib.Core.Path.{_≡_};
 ghost use mathlib.Core.List.{List};
 ghost use Prim.Native.Nat.{ℕ, _≤_, _<_};
 ghost use Rattle.grammar.specs.Bytes.{Bytes, same};
 ghost use Rattle.grammar.specs.Operator.{lawfulTable};
 ghost use Rattle.operators.specs.Entries.{word, nameStart, nameSize, nameIn, nameAt, Stands, codedFind, operatorsFrom, tableBy, hashOf, Sound};
-ghost use Rattle.operators.specs.Entries.{Starting, IsName, Starts, Quickly, Declarable, Declared, Clearable, Cleared};
+ghost use Rattle.operators.specs.Entries.{Starting, IsName, Quickly, Declarable, Declared, Clearable, Cleared};
 
 pub const MAX_OPERATORS: usize = 64;
-
-const STARTING: usize = 8;
-
-// No entry.
-pub const NONE: usize = 64;
 
 // Where the name begins and how many bytes it has, and the numbers of its roles.
 pub const WORDS: usize = 5;
@@ -112,48 +108,6 @@ pub fn is_named(text: &[u8], start: usize, size: usize, name: &[u8]) -> bool
     )
 }
 
-// The entry of the starting operator that some bytes name, NONE if they name none.
-fn starting(name: &[u8]) -> usize
-    ensures { λ r. ⌜ Starts (now (name .entry)) r ⌝ }
-{
-    match name.len() {
-        1 => match name[0] {
-            b'=' => 3,
-            b'<' => 4,
-            b'+' => 5,
-            b'-' => 6,
-            b'*' => 7,
-            _ => NONE,
-        },
-        2 => {
-            if name[0] == b'o' {
-                if name[1] == b'r' {
-                    return 0;
-                }
-            }
-            NONE
-        }
-        3 => {
-            if name[0] == b'a' {
-                if name[1] == b'n' {
-                    if name[2] == b'd' {
-                        return 1;
-                    }
-                }
-            }
-            if name[0] == b'n' {
-                if name[1] == b'o' {
-                    if name[2] == b't' {
-                        return 2;
-                    }
-                }
-            }
-            NONE
-        }
-        _ => NONE,
-    }
-}
-
 // What can be said of a name before it is compared with the names that were declared.
 pub enum Quick {
     At { entry: usize },
@@ -171,7 +125,8 @@ pub fn find_quickly<'a>(
     ensures { λ r. ⌜ ((text : Bytes) → Sound text (tableBy (now (words .entry)) (now (hints .entry)) count)
         → Quickly (codedFind text (now (words .entry)) (now (name .entry)) 0 count) r) ⌝ }
 {
-    let entry = starting(name);
+    // A starting operator has its number as its entry, if none before it was removed. No name has the offset of number COUNT.
+    let entry = number::number(name);
     if entry < count {
         if words[entry * WORDS + START] as usize == NAMES + entry * 3 {
             return Quick::At { entry };
@@ -243,40 +198,40 @@ impl Table {
         let mut t = Table {
             words: [0u16; 320],
             hints: [0u8; 128],
-            count: STARTING,
+            count: number::COUNT,
         };
         t.words[0] = 16384;
         t.words[1] = 2;
-        t.words[3] = role::LEFT + 800;
+        t.words[3] = role::LEFT + number::DISJUNCTION;
         t.hints[72] = 1;
         t.words[5] = 16387;
         t.words[6] = 3;
-        t.words[8] = role::LEFT + 700;
+        t.words[8] = role::LEFT + number::CONJUNCTION;
         t.hints[48] = 2;
         t.words[10] = 16390;
         t.words[11] = 3;
-        t.words[12] = role::RIGHT + 600;
+        t.words[12] = role::RIGHT + number::NEGATION;
         t.hints[74] = 3;
         t.words[15] = 16393;
         t.words[16] = 1;
-        t.words[18] = role::NON + 500;
+        t.words[18] = role::NON + number::COMPARISON;
         t.hints[61] = 4;
         t.words[20] = 16396;
         t.words[21] = 1;
-        t.words[23] = role::NON + 500;
+        t.words[23] = role::NON + number::COMPARISON;
         t.hints[60] = 5;
         t.words[25] = 16399;
         t.words[26] = 1;
-        t.words[28] = role::LEFT + 400;
+        t.words[28] = role::LEFT + number::SUM;
         t.hints[43] = 6;
         t.words[30] = 16402;
         t.words[31] = 1;
-        t.words[32] = role::NON + 400;
-        t.words[33] = role::LEFT + 400;
+        t.words[32] = role::NON + number::SUM;
+        t.words[33] = role::LEFT + number::SUM;
         t.hints[45] = 7;
         t.words[35] = 16405;
         t.words[36] = 1;
-        t.words[38] = role::LEFT + 300;
+        t.words[38] = role::LEFT + number::PRODUCT;
         t.hints[42] = 8;
         t
     }
@@ -335,10 +290,10 @@ impl Table {
                     k += 1;
                 }
                 self.count = last;
-                self
             }
-            Found::Nothing => self,
+            Found::Nothing => {}
         }
+        self
     }
 }
 

@@ -11,7 +11,7 @@ use Rattle.grammar.specs.Token.{Atom, symbol, quoted}
 use Rattle.grammar.specs.Operator.{Fixity, Prefix, Infix, Postfix, role}
 use Rattle.grammar.specs.Declaration.{startTable}
 use Rattle.grammar.proofs.Logic.{below}
-use Rattle.rows.specs.Fields.{kind, start, size, Within, withWords}
+use Rattle.rows.specs.Fields.{kind, Within, withWords}
 use Rattle.rows.specs.Codes.{roleCode, arrivalOf}
 use Rattle.rows.specs.Tokens.{charactersOf}
 use Rattle.rows.specs.Agreeing.{rolesFor, arrivalFor, KeptOutside, NotedAt}
@@ -46,29 +46,29 @@ module _ (text : Bytes) (K R : List ℕ) (i : ℕ) (R′ : List ℕ) where
       (x : p ≡ roleCode (startRoles n Prefix))
       (y : q ≡ roleCode (startRoles n Infix))
     where
-      code : (f : Fixity) → roleCode (startRoles n f) ≡ roleCode (role startTable (charactersOf text K i) f)
-      code f = ap (λ m. roleCode (startRoles m f)) e ∙ ap roleCode (start-roles (charactersOf text K i) f)
+      name-code : (f : Fixity) → roleCode (startRoles n f) ≡ roleCode (role startTable (charactersOf text K i) f)
+      name-code f = ap (λ m. roleCode (startRoles m f)) e ∙ ap roleCode (start-roles (charactersOf text K i) f)
 
-      name-noted :
+      name-notes :
           {a : ℕ} → R′ ≡ withWords R i p q 0 a → (b : Atom) → ((f : Fixity) → role startTable (charactersOf text K i) f ≡ rolesFor startTable b f)
           → a ≡ arrivalFor startTable b → NotedAt startTable R i b R′
-      name-noted s b r z =
+      name-notes s b r z =
           noted startTable R i R′ b
-          (x ∙ code Prefix ∙ ap roleCode (r Prefix))
-          (y ∙ code Infix ∙ ap roleCode (r Infix))
-          (no-postfix n ∙ code Postfix ∙ ap roleCode (r Postfix))
+          (x ∙ name-code Prefix ∙ ap roleCode (r Prefix))
+          (y ∙ name-code Infix ∙ ap roleCode (r Infix))
+          (no-postfix n ∙ name-code Postfix ∙ ap roleCode (r Postfix))
           (words-stored i w s refl refl refl z)
 
       pub symbol-notes : {a : ℕ} → R′ ≡ withWords R i p q 0 a → kind K i ≡ 1 → a ≡ arrivalOf (startRoles n) → NotesToken text K R i R′
       unfolding rolesFor arrivalFor
       symbol-notes s k z =
           let arrives = z ∙ ap (λ m. arrivalOf (startRoles m)) e ∙ ap arrivalOf (fun-ext (start-roles (charactersOf text K i))) in
-          atom-notes (symbol-item text K startTable R i R′ k (name-noted s (symbol (charactersOf text K i)) (λ f. refl) arrives))
+          atom-notes (symbol-item text K startTable R i R′ k (name-notes s (symbol (charactersOf text K i)) (λ f. refl) arrives))
 
       pub quoted-notes : R′ ≡ withWords R i p q 0 0 → kind K i ≡ 3 → NotesToken text K R i R′
       unfolding rolesFor arrivalFor
       quoted-notes s k =
-          atom-notes (quoted-item text K startTable R i R′ k (name-noted s (quoted (charactersOf text K i)) (λ f. refl) refl))
+          atom-notes (quoted-item text K startTable R i R′ k (name-notes s (quoted (charactersOf text K i)) (λ f. refl) refl))
 
   -- Any other token.
   pub other-notes :
@@ -88,8 +88,8 @@ module _ (text : Bytes) (K R : List ℕ) (i : ℕ) (R′ : List ℕ) where
 
 -- One token more.
 module _ {text : Bytes} {K : List ℕ} where
-  token-kept : {R R′ : List ℕ} {j : ℕ} (i : ℕ) → j < i → KeptOutside R i (suc i) R′ → NotedToken text K R j → NotedToken text K R′ j
-  token-kept {R} {R′} {j} i l k t =
+  noted-token-kept : {R R′ : List ℕ} {j : ℕ} (i : ℕ) → j < i → KeptOutside R i (suc i) R′ → NotedToken text K R j → NotedToken text K R′ j
+  noted-token-kept {R} {R′} {j} i l k t =
       record {
         atoms = λ h. noted-kept (λ m w. k .same m j w (inl l)) (t .atoms h);
         others = λ d. k .same 3 j (omega arith) (inl l) ∙ t .others d;
@@ -98,10 +98,10 @@ module _ {text : Bytes} {K : List ℕ} where
   pub none-noted : (R : List ℕ) → NotesAll text K 0 R R
   none-noted R = record { noted = λ j h. absurd (omega arith); kept = kept-none R 0 0 }
 
-  pub one-more :
+  pub next-noted :
       {i : ℕ} {R M R′ : List ℕ} → NotesAll text K i R M → NotesToken text K M i R′ → NotesAll text K (suc i) R R′
-  one-more {i} {R} {M} {R′} a t =
+  next-noted {i} {R} {M} {R′} a t =
       record {
-        noted = λ j h. below j i (λ l. token-kept i l (t .kept) (a .noted j l)) (λ l. let e : j ≡ i = omega arith in rw e (t .noted));
+        noted = λ j h. below j i (λ l. noted-token-kept i l (t .kept) (a .noted j l)) (λ l. let e : j ≡ i = omega arith in rw e (t .noted));
         kept = kept-join 0 (suc i) (a .kept) (t .kept) (omega arith) (omega arith) (omega arith) (omega arith);
       }

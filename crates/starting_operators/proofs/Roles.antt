@@ -43,16 +43,16 @@ codes = (
 )
 
 -- A number from 8 on.
-no-roles : (n : ℕ) → startRoles (suc (suc (suc (suc (suc (suc (suc (suc n)))))))) ≡ (λ f. none)
+roles-behind : (n : ℕ) → startRoles (suc (suc (suc (suc (suc (suc (suc (suc n)))))))) ≡ (λ f. none)
 unfolding startRoles rolesAt startTable startDeclarations declareAll declare declareRole same
-no-roles n = refl
+roles-behind n = refl
 
-beyond : (n : ℕ) → 8 ≤ n → startRoles n ≡ (λ f. none)
-beyond n h = let e : n ≡ suc (suc (suc (suc (suc (suc (suc (suc (n - 8)))))))) = omega arith in ap startRoles e ∙ no-roles (n - 8)
+no-roles : (n : ℕ) → 8 ≤ n → startRoles n ≡ (λ f. none)
+no-roles n h = let e : n ≡ suc (suc (suc (suc (suc (suc (suc (suc (n - 8)))))))) = omega arith in ap startRoles e ∙ roles-behind (n - 8)
 
 pub coded-none : (n : ℕ) → 7 ≤ n → (n ≡ 7 → ⊥) → Coded (startRoles n) 0 0 0
 unfolding roleCode arrivalOf firstRole
-coded-none n h d = rw (beyond n (omega arith)) (record { prefixed = refl; between = refl; arrives = refl })
+coded-none n h d = rw (no-roles n (omega arith)) (record { prefixed = refl; between = refl; arrives = refl })
 
 -- No number but those of `not` and `-` has a prefix role, and none a postfix role.
 pub no-prefix : (n : ℕ) → (n ≡ 2 → ⊥) → (n ≡ 6 → ⊥) → 0 ≡ roleCode (startRoles n Prefix)
@@ -81,9 +81,9 @@ no-postfix n =
     n
     8
     (each (λ n. 0 ≡ roleCode (startRoles n Postfix)) (refl, refl, refl, refl, refl, refl, refl, refl) n)
-    (λ h. rw (beyond n h))
+    (λ h. rw (no-roles n h))
 
 -- One of two numbers.
-pub either : (P : ℕ → Type 0) (a : ℕ) → P a → P (suc a) → (n : ℕ) → a ≤ n → n < suc (suc a) → P n
-either P a p q n h l =
+pub one-of-two : (P : ℕ → Type 0) (a : ℕ) → P a → P (suc a) → (n : ℕ) → a ≤ n → n < suc (suc a) → P n
+one-of-two P a p q n h l =
     below n (suc a) (λ m. let e : n ≡ a = omega arith in rw e p) (λ m. let e : n ≡ suc a = omega arith in rw e q)

@@ -1,4 +1,5 @@
--- A name of one, two or three bytes is the list of its bytes.
+-- A name of one, two or three bytes is the list of its bytes: by cases on the list, as its length allows no other.
+-- Each law takes off the first byte and goes on with the law for one byte less.
 use mathlib.Core.Path.{_≡_, ap, ap₂}
 use mathlib.Core.List.{[], _∷_}
 use Prim.Native.Nat.{ℕ}

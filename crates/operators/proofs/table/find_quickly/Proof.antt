@@ -2,12 +2,13 @@
 use mathlib.Core.Path.{sym, ap, _∙_}
 use lib.ListN.{getD}
 use borrow.Author.Needs.{needs}
+use Rattle.operators.proofs.Starts.{start-spelled}
 use Rattle.operators.proofs.Searches.{start-below, unhinted, found-start}
 use Rattle.operators.proofs.table.find_quickly.Statement.{statement}
 use Rattle.operators.proofs.table.find_quickly.Tie as tie
 
-starting-requires : tie.Need-starting-requires
-starting-requires c κs = search needs
+number-requires : tie.Need-number-requires
+number-requires c κs = search needs
 
 mul-if2 : tie.Need-mul-if2
 mul-if2 c = search needs
@@ -35,7 +36,7 @@ add-if2-2 c = search needs
 returns : tie.Need-returns
 returns c text sound =
     let d = c .before .before in
-    found-start text _ sound _ _ (d .if1 .taken) (d .before .starting .ensures) (c .if2 .taken)
+    found-start text _ sound _ _ (d .if1 .taken) (start-spelled _ _ (d .before .number .ensures)) (c .if2 .taken)
 
 hash-requires : tie.Need-hash-requires
 hash-requires c κs = search needs
@@ -55,7 +56,7 @@ pub find-quickly-spec : {M : Type 1} → statement M
 find-quickly-spec =
     tie.close
     (tie.spec
-    starting-requires
+    number-requires
     mul-if2
     add-if2
     mul-if2-2

@@ -5,7 +5,7 @@ use native.Mathlib.Numerals.{add-one}
 use native.Mathlib.Omega.{arith}
 use borrow.Author.Needs.{needs}
 use Rattle.starting_operators.specs.Starting.{NotesAll}
-use Rattle.starting_operators.proofs.NotedTokens.{none-noted, one-more, notable-kept}
+use Rattle.starting_operators.proofs.NotedTokens.{none-noted, next-noted, notable-kept}
 use Rattle.starting_operators.proofs.notes.note_all.Statement.{statement}
 use Rattle.starting_operators.proofs.notes.note_all.Tie as tie
 
@@ -34,7 +34,7 @@ loop-again : tie.Need-loop-again Inv-loop μ-loop
 loop-again c =
     let n = c .before .before in
     let l = n .before .before .before in
-    (omega arith, rw add-one (one-more (l .loop .inv .1) (n .note .ensures)))
+    (omega arith, rw add-one (next-noted (l .loop .inv .1) (n .note .ensures)))
 
 same-length : tie.Need-same-length Inv-loop μ-loop
 same-length c = c .before .loop .inv .1 .kept .long

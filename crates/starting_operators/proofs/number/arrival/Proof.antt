@@ -5,7 +5,7 @@ use native.Mathlib.Omega.{arith}
 use borrow.Author.Needs.{needs}
 use Rattle.rows.specs.Codes.{arrivalOf}
 use Rattle.starting_operators.specs.Starting.{startRoles}
-use Rattle.starting_operators.proofs.Roles.{codes, coded-none, either}
+use Rattle.starting_operators.proofs.Roles.{codes, coded-none, one-of-two}
 use Rattle.starting_operators.proofs.number.arrival.Statement.{statement}
 use Rattle.starting_operators.proofs.number.arrival.Tie as tie
 
@@ -30,10 +30,10 @@ returns-4 c = rw (c .match .keys4) (codes .7 .arrives)
 returns-5 : tie.Need-returns-5
 returns-5 c =
     let r = c .before .match .rest .0 in
-    either (Comes 501) 3 (codes .3 .arrives) (codes .4 .arrives) _ (from-three _ (r .0 .0 .1) (r .0 .1) (r .1)) (c .if1 .taken)
+    one-of-two (Comes 501) 3 (codes .3 .arrives) (codes .4 .arrives) _ (from-three _ (r .0 .0 .1) (r .0 .1) (r .1)) (c .if1 .taken)
 
 returns-6 : tie.Need-returns-6
-returns-6 c = either (Comes 401) 5 (codes .5 .arrives) (codes .6 .arrives) _ (c .before .if1 .left) (c .if2 .taken)
+returns-6 c = one-of-two (Comes 401) 5 (codes .5 .arrives) (codes .6 .arrives) _ (c .before .if1 .left) (c .if2 .taken)
 
 returns-7 : tie.Need-returns-7
 returns-7 c = coded-none _ (c .if2 .left) (c .before .before .match .rest .1) .arrives

@@ -6,7 +6,7 @@ use borrow.Author.Needs.{needs}
 use Rattle.grammar.specs.Operator.{Infix}
 use Rattle.rows.specs.Codes.{roleCode}
 use Rattle.starting_operators.specs.Starting.{startRoles}
-use Rattle.starting_operators.proofs.Roles.{codes, coded-none, either}
+use Rattle.starting_operators.proofs.Roles.{codes, coded-none, one-of-two}
 use Rattle.starting_operators.proofs.number.infix.Statement.{statement}
 use Rattle.starting_operators.proofs.number.infix.Tie as tie
 
@@ -23,10 +23,10 @@ returns-3 : tie.Need-returns-3
 returns-3 c = rw (c .match .keys3) (codes .7 .between)
 
 returns-4 : tie.Need-returns-4
-returns-4 c = either (Has 4596) 3 (codes .3 .between) (codes .4 .between) _ (c .before .if1 .left) (c .if2 .taken)
+returns-4 c = one-of-two (Has 4596) 3 (codes .3 .between) (codes .4 .between) _ (c .before .if1 .left) (c .if2 .taken)
 
 returns-5 : tie.Need-returns-5
-returns-5 c = either (Has 2448) 5 (codes .5 .between) (codes .6 .between) _ (c .before .if2 .left) (c .if3 .taken)
+returns-5 c = one-of-two (Has 2448) 5 (codes .5 .between) (codes .6 .between) _ (c .before .if2 .left) (c .if3 .taken)
 
 returns-6 : tie.Need-returns-6
 returns-6 c =

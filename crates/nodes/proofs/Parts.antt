@@ -1,0 +1,105 @@
+-- What the tests on a token show: which token opens its span, what is built first and second below it, and which words its node has.
+use mathlib.Core.Path.{_≡_, _∙_}
+use mathlib.Core.Bool.{true, false}
+use mathlib.Core.List.{List}
+use Prim.Native.Nat.{ℕ, _+_, _-_, _≤_, _<_}
+use lib.Dec.{ltb, eqb}
+use borrow.Author.Tests.{eq-eqb, ne-eqb, lt-ltb, le-ltb}
+use Rattle.grammar.specs.Nodes.{postfixKind, bracketKind, nodeWords}
+use Rattle.rows.specs.Fields.{kind, closer, left, right}
+use Rattle.nodes.specs.Node.{tokenWords, atomWords, blockWords, prefixOrInfixWords}
+use Rattle.nodes.specs.First.{openerOf, spanPart, operandPart, firstPart}
+use Rattle.nodes.specs.declared.build.Part.{Part}
+use Rattle.nodes.specs.declared.build.Part.the-variants.{Nothing, Of}
+
+pub opener-bracket : (K : List ℕ) (i : ℕ) → kind K i ≡ 4 → openerOf K i ≡ i
+unfolding openerOf
+opener-bracket K i e = rw (eq-eqb (kind K i) 4 e, openerOf)
+
+pub opener-block : (K : List ℕ) (i : ℕ) → (kind K i ≡ 4 → ⊥) → openerOf K i ≡ closer K i
+unfolding openerOf
+opener-block K i e = rw (ne-eqb (kind K i) 4 e, openerOf)
+
+pub prefix-words : (base l n : ℕ) (K : List ℕ) (i : ℕ) → l ≡ 0 → prefixOrInfixWords base l n K i ≡ tokenWords 3 (base + n - 1) 0 K i
+unfolding prefixOrInfixWords
+prefix-words base l n K i e = rw (eq-eqb l 0 e, prefixOrInfixWords)
+
+pub infix-words : (base l n : ℕ) (K : List ℕ) (i : ℕ) → (l ≡ 0 → ⊥)
+    → prefixOrInfixWords base l n K i ≡ tokenWords 4 (base + l - 1) (base + n - 1) K i
+unfolding prefixOrInfixWords
+infix-words base l n K i e = rw (ne-eqb l 0 e, prefixOrInfixWords)
+
+pub operand-none : (m from to : ℕ) → m ≡ 0 → operandPart m from to ≡ Nothing
+unfolding operandPart
+operand-none m from to e = rw (eq-eqb m 0 e, operandPart)
+
+pub operand-some : (m from to : ℕ) → (m ≡ 0 → ⊥) → operandPart m from to ≡ Of from (m - 1) to
+unfolding operandPart
+operand-some m from to e = rw (ne-eqb m 0 e, operandPart)
+
+-- The operand on the right of token number `i`.
+unfoldable pub secondPart : List ℕ → List ℕ → ℕ → ℕ → Part
+secondPart K O i to = elim (ltb 3 (kind K i)) [ true ↦ Nothing | false ↦ operandPart (right O i) (i + 1) to ]
+
+-- The words of the node of token number `i`: before it stand `m` nodes from number `n` on, `l` of them those of the first part.
+unfoldable pub lastWords : List ℕ → List ℕ → ℕ → ℕ → ℕ → ℕ → List ℕ
+lastWords K O i n l m =
+    elim (ltb 3 (kind K i)) [
+      | true ↦
+          elim (eqb (kind K i) 4) [
+            | true ↦ nodeWords bracketKind (n + m - 1) 0 0 0
+            | false ↦ blockWords (n + m - 1) K i (openerOf K i)
+          ]
+      | false ↦
+          elim (eqb (right O i) 0) [
+            | true ↦ elim (eqb l 0) [ true ↦ atomWords K i | false ↦ tokenWords postfixKind (n + m - 1) 0 K i ]
+            | false ↦ prefixOrInfixWords n l m K i
+          ]
+    ]
+
+module _ (K O : List ℕ) (i : ℕ) where
+  -- Of a bracket pair or a block.
+  module _ (is-structure : 3 < kind K i) where
+    pub first-span : (from : ℕ) → firstPart K O from i ≡ spanPart K O (openerOf K i)
+    unfolding firstPart
+    first-span from = rw (lt-ltb 3 (kind K i) is-structure, firstPart)
+
+    pub second-none : (to : ℕ) → secondPart K O i to ≡ Nothing
+    unfolding secondPart
+    second-none to = rw (lt-ltb 3 (kind K i) is-structure, secondPart)
+
+    pub last-bracket : kind K i ≡ 4 → (n l m : ℕ) → lastWords K O i n l m ≡ nodeWords 6 (n + m - 1) 0 0 0
+    unfolding lastWords
+    last-bracket e n l m = rw (lt-ltb 3 (kind K i) is-structure, eq-eqb (kind K i) 4 e, lastWords)
+
+    pub last-block : (kind K i ≡ 4 → ⊥) → (n l m : ℕ) → lastWords K O i n l m ≡ blockWords (n + m - 1) K i (openerOf K i)
+    unfolding lastWords
+    last-block e n l m = rw (lt-ltb 3 (kind K i) is-structure, ne-eqb (kind K i) 4 e, lastWords)
+
+  -- Of an atom or an operator.
+  module _ (is-atom : kind K i ≤ 3) where
+    pub first-left : (from : ℕ) → firstPart K O from i ≡ operandPart (left O i) from i
+    unfolding firstPart
+    first-left from = rw (le-ltb 3 (kind K i) is-atom, firstPart)
+
+    pub second-right : (to : ℕ) → secondPart K O i to ≡ operandPart (right O i) (i + 1) to
+    unfolding secondPart
+    second-right to = rw (le-ltb 3 (kind K i) is-atom, secondPart)
+
+    pub second-absent : (to : ℕ) → right O i ≡ 0 → secondPart K O i to ≡ Nothing
+    second-absent to e = second-right to ∙ operand-none (right O i) (i + 1) to e
+
+    pub second-some : (to : ℕ) {r : ℕ} → r ≡ right O i → (r ≡ 0 → ⊥) → secondPart K O i to ≡ Of (i + 1) (r - 1) to
+    second-some to e f = second-right to ∙ rw e (operand-some (right O i) (i + 1) to (λ z. f (e ∙ z)))
+
+    pub last-atom : right O i ≡ 0 → (n l m : ℕ) → l ≡ 0 → lastWords K O i n l m ≡ atomWords K i
+    unfolding lastWords
+    last-atom e n l m f = rw (le-ltb 3 (kind K i) is-atom, eq-eqb (right O i) 0 e, eq-eqb l 0 f, lastWords)
+
+    pub last-postfix : right O i ≡ 0 → (n l m : ℕ) → (l ≡ 0 → ⊥) → lastWords K O i n l m ≡ tokenWords 5 (n + m - 1) 0 K i
+    unfolding lastWords
+    last-postfix e n l m f = rw (le-ltb 3 (kind K i) is-atom, eq-eqb (right O i) 0 e, ne-eqb l 0 f, lastWords)
+
+    pub last-right : (right O i ≡ 0 → ⊥) → (n l m : ℕ) → lastWords K O i n l m ≡ prefixOrInfixWords n l m K i
+    unfolding lastWords
+    last-right e n l m = rw (le-ltb 3 (kind K i) is-atom, ne-eqb (right O i) 0 e, lastWords)
