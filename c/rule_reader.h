@@ -18,8 +18,8 @@
  *
  * Threads. There are no variables outside a call: several threads may call at once, each with a table or buffer of its own.
  *
- * Stack. Measured on 2026-11-16, the most found: 220,808 bytes for rule_read, for `not` 1,023 times and then a name, and
- * 120,208 bytes for rule_canonicalize, for 32 nested blocks. A thread with 256 KB has enough. c/stack.c measures it.
+ * Stack. At most 192 KB for rule_read and 96 KB for rule_canonicalize. Measured on 2026-11-16, not proved, the most found: 171,496
+ * bytes for `not` 1,023 times and then a name, and 94,608 bytes for 32 nested blocks. c/stack.c measures it.
  */
 #ifndef RULE_READER_H
 #define RULE_READER_H

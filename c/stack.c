@@ -13,8 +13,8 @@
 #include <string.h>
 #include <sys/mman.h>
 
-/* What the header tells a user, and what is aimed at. */
-enum { READ_MOST = 224 * 1024, CANONICALIZE_MOST = 120 * 1024, READ_AIM = 192 * 1024, CANONICALIZE_AIM = 96 * 1024 };
+/* What the header tells a user. */
+enum { READ_MOST = 192 * 1024, CANONICALIZE_MOST = 96 * 1024 };
 
 enum { STACK = 1024 * 1024 };
 
@@ -210,9 +210,6 @@ int main(void)
     try_nested();
     printf("%-56s %6s %9zu %13zu\n", "the most", "", read_most, canonicalize_most);
     printf("%-56s %6s %9d %13d\n", "allowed", "", READ_MOST, CANONICALIZE_MOST);
-    printf("%-56s %6s %9d %13d\n", "aimed at", "", READ_AIM, CANONICALIZE_AIM);
-    if (read_most > READ_AIM || canonicalize_most > CANONICALIZE_AIM)
-        printf("the aim is missed\n");
     if (read_most > READ_MOST || canonicalize_most > CANONICALIZE_MOST)
         stop("more stack than the bound");
     return 0;

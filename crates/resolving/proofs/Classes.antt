@@ -1,5 +1,5 @@
 -- The class of a token by its kind: each law takes the tests up to the one that holds. What a class says of the first token of an item,
--- where its characters stand, and what is noted of a name.
+-- and where its characters stand.
 use mathlib.Core.Path.{_≡_, refl, sym, ap, subst, _∙_}
 use mathlib.Core.Logic.{_⊎_, inl, inr}
 use mathlib.Core.List.{List}
@@ -16,14 +16,13 @@ use Rattle.rows.specs.Fields.{kind, start, size, closer, Within}
 use Rattle.rows.specs.Tokens.{charactersOf, IsAtomKind, Paired, done, single, bracket, block}
 use Rattle.rows.proofs.Fields.{within}
 use Rattle.rows.proofs.Stored.{part-ends, stored-sized, stored-characters, part-characters}
-use Rattle.rows.proofs.Noting.{NotedAtom, symbol-item, quoted-item}
 use Rattle.operators.specs.Entries.{codedFind, tableOf, IsName}
 use Rattle.operators.specs.declared.table.Found.{Found}
 use Rattle.operators.specs.declared.table.Found.the-variants.{At, Nothing}
 use Rattle.operators.specs.declared.table.Table as E
-use Rattle.resolving.specs.declared.Class.{Class}
-use Rattle.resolving.specs.declared.Class.the-variants.{Name, Number, Operator, Bracket, Block}
-use Rattle.resolving.specs.Resolving.{endOf, foundClass, codedClass, Ranged, NameNoted}
+use Rattle.rows.specs.declared.class.Class.{Class}
+use Rattle.rows.specs.declared.class.Class.the-variants.{Name, Number, Operator, Bracket, Block}
+use Rattle.resolving.specs.Resolving.{endOf, foundClass, codedClass, Ranged}
 
 module _ (text : Bytes) (K : List ℕ) (i : ℕ) (W : List ℕ) (count : ℕ) where
   abbrev class : Class
@@ -127,13 +126,3 @@ module _ {text : Bytes} {K R : List ℕ} {i to : ℕ} (g : Ranged text K R i to)
 pub name-kind : {X : Type 0} {k : ℕ} → ((k ≡ 1) × X) ⊎ (k ≡ 3) → k ≤ 3
 name-kind (inl h) = omega (arith, h .0)
 name-kind (inr h) = omega arith
-
--- So is what is noted of it.
-pub name-item :
-    (text : Bytes) (K : List ℕ) (t : E.Table) (R : List ℕ) (i : ℕ) (R′ : List ℕ) {k : ℕ} {m : Bytes}
-    → k ≡ kind K i → m ≡ charactersOf text K i
-    → ((kind K i ≡ 1) × (finds text K i (t .words) (t .count) ≡ Nothing)) ⊎ (kind K i ≡ 3)
-    → NameNoted (eqb k 3) text t m R i R′ → NotedAtom text K (tableOf text t) R i R′
-name-item text K t R i R′ {k} e d (inl h) n =
-    symbol-item text K (tableOf text t) R i R′ (h .0) (rw (ne-eqb k 3 (λ z. omega (arith, h .0)), d) at n (h .1))
-name-item text K t R i R′ {k} e d (inr h) n = quoted-item text K (tableOf text t) R i R′ h (rw (eq-eqb k 3 (e ∙ h), d) at n)

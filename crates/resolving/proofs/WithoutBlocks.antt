@@ -12,6 +12,7 @@ use Rattle.grammar.specs.Declaration.{startTable}
 use Rattle.grammar.specs.Span.{Item, itemTokens, items}
 use Rattle.grammar.specs.Span as Span
 use Rattle.grammar.specs.Blocks.{checkItem, checkItems, checkBlocks}
+use Rattle.grammar.proofs.Logic.{below}
 use Rattle.rows.specs.Fields.{kind, arrival}
 use Rattle.rows.specs.Tokens.{atomIn, range, IsAtomKind, Paired, done, single, bracket, block, Unblocked}
 use Rattle.rows.specs.Agreeing.{Noted, Agrees, ends, atoms, brackets}
@@ -64,20 +65,32 @@ module _ (text : Bytes) (K : List ℕ) (T : Table) where
             brackets c o w b d e (quiet i (omega arith) o) (blockless-agrees p (omega arith)) (blockless-agrees q h)
         blockless-agrees (block c e o w v b d f y z g p q) h = absurd (unblocked c (omega arith) y)
 
+-- The tokens of such a range are atoms and brackets.
+flat-kinds : {K : List ℕ} {n i to : ℕ} → Unblocked K n → Paired K i to → to ≤ n → (j : ℕ) → i ≤ j → j < to → kind K j ≤ 5
+flat-kinds u done h j a b = absurd (omega arith)
+flat-kinds {K} u (single {i = i} l k p) h j a b =
+    below j (suc i) (λ c. let e : j ≡ i = omega arith in rw e (omega arith)) (λ c. flat-kinds u p h j c b)
+flat-kinds {K} u (bracket {i = i} c o w l d e p q) h j a b =
+    below j (suc i) (λ x. let z : j ≡ i = omega arith in rw z (omega arith))
+    (λ x. below j c (λ y. flat-kinds u p (omega arith) j x y)
+    (λ y. below j (suc c) (λ v. let z : j ≡ c = omega arith in rw z (omega arith)) (λ v. flat-kinds u q h j v b)))
+flat-kinds u (block c e o w v l d f y z g p q) h j a b = absurd (u c (omega arith) y)
+
 -- Under the starting operators: what the pass over all tokens asks, and that what it leaves is what is asked of the whole text.
-module _ {text : Bytes} {K R : List ℕ} {n : ℕ} (g : Ranged text K R 0 n) where
+module _ {text : Bytes} {K R : List ℕ} {n : ℕ} (g : Ranged text K R 0 n) (unblocked : Unblocked K n) where
   pub notable : Notable text K R n
   notable =
       record {
         placed = g .placed;
         stored = g .stored;
         within = g .within;
+        flat = λ j l. flat-kinds unblocked (g .paired) (omega arith) j (omega arith) l;
         tokens = omega (arith, g .within, g .tokens);
         roles = omega (arith, g .within, g .roles);
       }
 
-  pub blockless-resolves : (R′ : List ℕ) → Unblocked K n → NotesAll text K n R R′ → Resolving text K startTable 0 n R R′ Passed
-  blockless-resolves R′ unblocked h =
+  pub blockless-resolves : (R′ : List ℕ) → NotesAll text K n R R′ → Resolving text K startTable 0 n R R′ Passed
+  blockless-resolves R′ h =
       record {
         answer = λ k l. rw (blockless-passes text K startTable n unblocked (g .paired) (omega arith) k l) (refl, agrees);
         kept = h .kept;
@@ -85,5 +98,5 @@ module _ {text : Bytes} {K R : List ℕ} {n : ℕ} (g : Ranged text K R 0 n) whe
     where
       agrees : Agrees text K R′ startTable 0 n
       agrees =
-          blockless-agrees text K startTable n unblocked R′ (λ j l a. h .noted j l .atoms a) (λ j l k. h .noted j l .others (λ a. omega arith))
+          blockless-agrees text K startTable n unblocked R′ (λ j l a. h .noted j l .atoms a) (λ j l k. h .noted j l .opens k)
           (g .paired) (omega arith)

@@ -21,8 +21,8 @@ use Rattle.operators.specs.Entries.{codedFind, tableBy, tableOf, Sound}
 use Rattle.operators.specs.declared.table.Found.{Found}
 use Rattle.operators.specs.declared.table.Found.the-variants.{At, Nothing}
 use Rattle.operators.specs.declared.table.Table as E
-use Rattle.resolving.specs.declared.Class.{Class}
-use Rattle.resolving.specs.declared.Class.the-variants.{Name, Number, Operator, Bracket, Block}
+use Rattle.rows.specs.declared.class.Class.{Class}
+use Rattle.rows.specs.declared.class.Class.the-variants.{Name, Number, Operator, Bracket, Block}
 use Rattle.resolving.specs.declared.Item.{Item}
 use Rattle.resolving.specs.declared.Item.the-variants.{Atom as OneAtom, Bracket as Bracketed, Block as Blocked}
 use Rattle.resolving.specs.declared.Resolved.{Resolved}
@@ -73,17 +73,15 @@ abbrev pub Resolves : Bytes → List ℕ → List ℕ → Table → ℕ → ℕ 
 Resolves text K R T from to (refused n p) r = r ≡ Refused n p
 Resolves text K R T from to (passed u) r = (r ≡ Passed) × Agrees text K R T from to
 
--- What is noted of the operator of an entry, by whatever name it is found, ..
+-- What is noted of the operator of an entry, by whatever name it is found,
 abbrev pub OperatorNoted : List ℕ → ℕ → List ℕ → ℕ → List ℕ → Type 0
 OperatorNoted W k R i R′ =
     (text H : List ℕ) (count : ℕ) → Sound text (tableBy W H count) → (name : Bytes) → codedFind text W name 0 count ≡ At k
     → NotedAt (tableOf text (tableBy W H count)) R i (symbol name) R′
 
--- .. and of a name: a quoted one, or one that is no operator.
-abbrev pub NameNoted : Bool → Bytes → E.Table → Bytes → List ℕ → ℕ → List ℕ → Type 0
-NameNoted true text t name R i R′ = NotedAt (tableOf text t) R i (quoted name) R′
-NameNoted false text t name R i R′ =
-    codedFind text (t .words) name 0 (t .count) ≡ Nothing → NotedAt (tableOf text t) R i (symbol name) R′
+-- .. and a name that is none's.
+abbrev pub Unfound : Bytes → E.Table → Bytes → Type 0
+Unfound text t name = codedFind text (t .words) name 0 (t .count) ≡ Nothing
 
 -- What an item is by its first token, and what is noted of it: a bracket pair or block is no operator.
 abbrev pub Notes : Bytes → List ℕ → Table → List ℕ → ℕ → List ℕ → Item → Type 0

@@ -6,6 +6,7 @@ use operators::table;
 use operators::table::Found;
 use operators::table::Quick;
 use operators::table::Table;
+use rows::class::Class;
 use rows::kinds;
 use rows::role;
 use rows::roles as row;
@@ -18,20 +19,11 @@ ghost use Prim.Native.Nat.{ℕ, suc, _≤_, _<_};
 ghost use Rattle.grammar.specs.Declaration.{startTable};
 ghost use Rattle.rows.specs.Fields.{closer, Within};
 ghost use Rattle.rows.specs.Tokens.{Unblocked};
+ghost use Rattle.rows.specs.Agreeing.{NameNoted};
 ghost use Rattle.operators.specs.Entries.{tableBy, tableOf, Sound, IsName};
 ghost use Rattle.declaration_part.specs.Parsing.{nextPlace};
-ghost use Rattle.resolving.specs.Resolving.{codedClass, Ranged, Lawful, OperatorNoted, NameNoted, Notes, Resolving};
+ghost use Rattle.resolving.specs.Resolving.{codedClass, Ranged, Lawful, OperatorNoted, Unfound, Notes, Resolving};
 ghost use Rattle.resolving.specs.Resolving.{endOf, isNew, isFull, BlockAt, BlockResolving};
-
-// A classified token: a name with the offset and the length of its characters, a number, an operator with its entry in the table, a bracket
-// pair or a block with its closing token.
-pub enum Class {
-    Name { start: usize, size: usize },
-    Number,
-    Operator { entry: usize },
-    Bracket { closer: usize },
-    Block { closer: usize },
-}
 
 // The class of the first token of an item, under the operators of a table.
 pub fn classify<'a>(
@@ -116,8 +108,8 @@ fn store_name<'a>(
     roles: &mut [u16],
 )
     requires { ⌜ Within 4 (now roles) i × Sound (now text) (tableBy (now words) (now hints) count) × IsName (now name) ⌝ }
-    ensures { λ r. ⌜ NameNoted quoted (now (text .entry)) (tableBy (now (words .entry)) (now (hints .entry)) count) (now (name .entry))
-        (now (roles .entry)) i (now (roles .exit)) ⌝ }
+    ensures { λ r. ⌜ NameNoted quoted (Unfound (now (text .entry)) (tableBy (now (words .entry)) (now (hints .entry)) count))
+        (tableOf (now (text .entry)) (tableBy (now (words .entry)) (now (hints .entry)) count)) (now (name .entry)) (now (roles .entry)) i (now (roles .exit)) ⌝ }
 {
     if quoted {
         match table::find(text, words, hints, count, name) {

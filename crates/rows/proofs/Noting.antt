@@ -5,6 +5,8 @@ use mathlib.Core.Logic.{_⊎_, inl, inr}
 use mathlib.Core.List.{List}
 use Prim.Native.Nat.{ℕ, suc, _≤_, _<_}
 use native.Mathlib.Omega.{arith}
+use lib.Dec.{eqb}
+use borrow.Author.Tests.{eq-eqb, ne-eqb}
 use Rattle.grammar.specs.Bytes.{Bytes}
 use Rattle.grammar.specs.Token.{Atom, symbol, number, quoted}
 use Rattle.grammar.specs.Operator.{Prefix, Infix, Postfix}
@@ -12,7 +14,7 @@ use Rattle.grammar.specs.Operator as G
 use Rattle.rows.specs.Fields.{field, store, kind, prefix, infixed, postfix, arrival, Within, withWords}
 use Rattle.rows.specs.Codes.{roleCode}
 use Rattle.rows.specs.Tokens.{charactersOf, atomOf, atomIn, IsAtomKind}
-use Rattle.rows.specs.Agreeing.{rolesFor, arrivalFor, Noted, KeptOutside, NotedAt}
+use Rattle.rows.specs.Agreeing.{rolesFor, arrivalFor, Noted, KeptOutside, NotedAt, NameNoted}
 use Rattle.rows.proofs.Fields.{store-same, other-field, other-entry, store-length}
 
 -- What is kept twice is kept.
@@ -133,3 +135,10 @@ module _ (text : Bytes) (K : List ℕ) (T : G.Table) (R : List ℕ) (i : ℕ) (R
   pub quoted-item : kind K i ≡ 3 → NotedAt T R i (quoted (charactersOf text K i)) R′ → NotedAtom
   unfolding atomIn atomOf
   quoted-item e n = rw e (omega arith, n)
+
+  -- A name is quoted or no operator.
+  pub name-item :
+      (NoOperator : Bytes → Type 0) {k : ℕ} {m : Bytes} → k ≡ kind K i → m ≡ charactersOf text K i
+      → ((kind K i ≡ 1) × NoOperator (charactersOf text K i)) ⊎ (kind K i ≡ 3) → NameNoted (eqb k 3) NoOperator T m R i R′ → NotedAtom
+  name-item P {k} e d (inl h) n = symbol-item (h .0) (rw (ne-eqb k 3 (λ z. omega (arith, h .0)), d) at n (h .1))
+  name-item P {k} e d (inr h) n = quoted-item h (rw (eq-eqb k 3 (e ∙ h), d) at n)

@@ -1,5 +1,6 @@
 -- What a row of roles holds: of each item its roles under the operators in force there.
 use mathlib.Core.Path.{_≡_}
+use mathlib.Core.Bool.{Bool, true, false}
 use mathlib.Core.List.{List}
 use mathlib.Core.Logic.{_⊎_}
 use mathlib.Core.Option.{none}
@@ -42,6 +43,11 @@ pub record KeptOutside (R : List ℕ) (from to : ℕ) (R′ : List ℕ) : Type 0
 pub record NotedAt (T : Table) (R : List ℕ) (i : ℕ) (a : Atom) (R′ : List ℕ) : Type 0 where
   pub noted : Noted T R′ i a
   pub kept : KeptOutside R i (suc i) R′
+
+-- So of a name: a quoted one, or one that is no operator.
+abbrev pub NameNoted : Bool → (Bytes → Type 0) → Table → Bytes → List ℕ → ℕ → List ℕ → Type 0
+NameNoted true NoOperator T name R i R′ = NotedAt T R i (quoted name) R′
+NameNoted false NoOperator T name R i R′ = NoOperator name → NotedAt T R i (symbol name) R′
 
 -- The tokens from number `i` to number `to` are paired, and the row has the roles of each item under the operators in force: within bracket
 -- pairs too, and within blocks under the operators of their bodies. A bracket pair or block is no operator.

@@ -1,6 +1,6 @@
 -- What is noted of a token under the starting operators: a name has the roles of the operator with its number, of which none is postfix;
--- what is neither a symbol nor a quoted name has none. One token after the other, the words of those before it are kept.
-use mathlib.Core.Path.{_≡_, refl, ap, fun-ext, _∙_}
+-- a number and a bracket have none. One token after the other, the words of those before it are kept.
+use mathlib.Core.Path.{_≡_, refl, sym, ap, fun-ext, _∙_}
 use mathlib.Core.Logic.{inl}
 use mathlib.Core.List.{List}
 use Prim.Native.Nat.{ℕ, suc, _<_}
@@ -16,10 +16,10 @@ use Rattle.rows.specs.Codes.{roleCode, arrivalOf}
 use Rattle.rows.specs.Tokens.{charactersOf}
 use Rattle.rows.specs.Agreeing.{rolesFor, arrivalFor, KeptOutside, NotedAt}
 use Rattle.rows.proofs.Fields.{within}
-use Rattle.rows.proofs.Noting.{kept-none, kept-join, noted-kept, WordsAt, words-stored, noted, number-noted, NotedAtom, symbol-item, number-item, quoted-item}
-use Rattle.starting_operators.specs.Starting.{startNumber, startRoles, Notable, NotedToken, NotesToken, NotesAll}
+use Rattle.rows.proofs.Noting.{kept-none, kept-join, noted-kept, WordsAt, words-stored, noted, number-noted, NotedAtom, number-item}
+use Rattle.starting_operators.specs.Starting.{startNumber, startRoles, Unnumbered, Notable, NotedToken, NotesToken, NotesAll}
 use Rattle.starting_operators.proofs.Numbers.{start-roles}
-use Rattle.starting_operators.proofs.Roles.{no-postfix}
+use Rattle.starting_operators.proofs.Roles.{coded-none, no-postfix}
 
 -- A token of those in the rows.
 module _ {text : Bytes} {K R : List ℕ} {n : ℕ} (g : Notable text K R n) {i : ℕ} (h : i < n) where
@@ -32,59 +32,59 @@ module _ {text : Bytes} {K R : List ℕ} {n : ℕ} (g : Notable text K R n) {i :
 -- The rows are those of as many tokens when the row of roles is changed.
 pub notable-kept : {text : Bytes} {K R R′ : List ℕ} {n : ℕ} → Notable text K R n → length R′ ≡ length R → Notable text K R′ n
 notable-kept g e =
-    record { placed = g .placed; stored = g .stored; within = g .within; tokens = g .tokens; roles = omega (arith, g .roles) }
+    record {
+      placed = g .placed;
+      stored = g .stored;
+      within = g .within;
+      flat = g .flat;
+      tokens = g .tokens;
+      roles = omega (arith, g .roles);
+    }
 
+-- A name, by the number that it has.
+module _ (name : Bytes) (R : List ℕ) (i : ℕ) (R′ : List ℕ) (w : Within 4 R i) where
+  module _ {n p q : ℕ} (e : n ≡ startNumber name) (x : p ≡ roleCode (startRoles n Prefix)) (y : q ≡ roleCode (startRoles n Infix)) where
+    name-code : (f : Fixity) → roleCode (startRoles n f) ≡ roleCode (role startTable name f)
+    name-code f = ap (λ m. roleCode (startRoles m f)) e ∙ ap roleCode (start-roles name f)
+
+    name-notes :
+        {a : ℕ} → R′ ≡ withWords R i p q 0 a → (b : Atom) → ((f : Fixity) → role startTable name f ≡ rolesFor startTable b f)
+        → a ≡ arrivalFor startTable b → NotedAt startTable R i b R′
+    name-notes s b r z =
+        noted startTable R i R′ b
+        (x ∙ name-code Prefix ∙ ap roleCode (r Prefix))
+        (y ∙ name-code Infix ∙ ap roleCode (r Infix))
+        (no-postfix n ∙ name-code Postfix ∙ ap roleCode (r Postfix))
+        (words-stored i w s refl refl refl z)
+
+    pub symbol-noted : {a : ℕ} → R′ ≡ withWords R i p q 0 a → a ≡ arrivalOf (startRoles n) → NotedAt startTable R i (symbol name) R′
+    unfolding rolesFor arrivalFor
+    symbol-noted s z =
+        name-notes s (symbol name) (λ f. refl) (z ∙ ap (λ m. arrivalOf (startRoles m)) e ∙ ap arrivalOf (fun-ext (start-roles name)))
+
+    pub quoted-noted : R′ ≡ withWords R i p q 0 0 → NotedAt startTable R i (quoted name) R′
+    unfolding rolesFor arrivalFor
+    quoted-noted s = name-notes s (quoted name) (λ f. refl) refl
+
+  pub unnumbered-noted : Unnumbered name → R′ ≡ withWords R i 0 0 0 0 → NotedAt startTable R i (symbol name) R′
+  unnumbered-noted u s =
+      let c = coded-none 8 (omega arith) (λ z. omega arith) in
+      symbol-noted (sym u) (c .prefixed) (c .between) s (c .arrives)
+
+-- A token, by what is noted of it.
 module _ (text : Bytes) (K R : List ℕ) (i : ℕ) (R′ : List ℕ) where
-  atom-notes : NotedAtom text K startTable R i R′ → NotesToken text K R i R′
-  atom-notes (k, n) = record { noted = record { atoms = λ _. n .noted; others = λ d. absurd (d k) }; kept = n .kept }
+  pub atom-notes : NotedAtom text K startTable R i R′ → NotesToken text K R i R′
+  atom-notes (k, n) = record { noted = record { atoms = λ _. n .noted; opens = λ e. absurd (omega arith) }; kept = n .kept }
 
-  -- A name, by the number that its characters have.
-  module _
-      {n p q : ℕ}
-      (w : Within 4 R i)
-      (e : n ≡ startNumber (charactersOf text K i))
-      (x : p ≡ roleCode (startRoles n Prefix))
-      (y : q ≡ roleCode (startRoles n Infix))
-    where
-      name-code : (f : Fixity) → roleCode (startRoles n f) ≡ roleCode (role startTable (charactersOf text K i) f)
-      name-code f = ap (λ m. roleCode (startRoles m f)) e ∙ ap roleCode (start-roles (charactersOf text K i) f)
+  module _ (w : Within 4 R i) (s : R′ ≡ withWords R i 0 0 0 0) where
+    words : WordsAt R i 0 0 0 0 R′
+    words = words-stored i w s refl refl refl refl
 
-      name-notes :
-          {a : ℕ} → R′ ≡ withWords R i p q 0 a → (b : Atom) → ((f : Fixity) → role startTable (charactersOf text K i) f ≡ rolesFor startTable b f)
-          → a ≡ arrivalFor startTable b → NotedAt startTable R i b R′
-      name-notes s b r z =
-          noted startTable R i R′ b
-          (x ∙ name-code Prefix ∙ ap roleCode (r Prefix))
-          (y ∙ name-code Infix ∙ ap roleCode (r Infix))
-          (no-postfix n ∙ name-code Postfix ∙ ap roleCode (r Postfix))
-          (words-stored i w s refl refl refl z)
+    pub number-notes : kind K i ≡ 2 → NotesToken text K R i R′
+    number-notes k = atom-notes (number-item text K startTable R i R′ k (number-noted R i R′ startTable _ words))
 
-      pub symbol-notes : {a : ℕ} → R′ ≡ withWords R i p q 0 a → kind K i ≡ 1 → a ≡ arrivalOf (startRoles n) → NotesToken text K R i R′
-      unfolding rolesFor arrivalFor
-      symbol-notes s k z =
-          let arrives = z ∙ ap (λ m. arrivalOf (startRoles m)) e ∙ ap arrivalOf (fun-ext (start-roles (charactersOf text K i))) in
-          atom-notes (symbol-item text K startTable R i R′ k (name-notes s (symbol (charactersOf text K i)) (λ f. refl) arrives))
-
-      pub quoted-notes : R′ ≡ withWords R i p q 0 0 → kind K i ≡ 3 → NotesToken text K R i R′
-      unfolding rolesFor arrivalFor
-      quoted-notes s k =
-          atom-notes (quoted-item text K startTable R i R′ k (name-notes s (quoted (charactersOf text K i)) (λ f. refl) refl))
-
-  -- Any other token.
-  pub other-notes :
-      Within 4 R i → R′ ≡ withWords R i 0 0 0 0 → (kind K i ≡ 1 → ⊥) → (kind K i ≡ 3 → ⊥) → NotesToken text K R i R′
-  other-notes w s a b =
-      record {
-        noted =
-            record {
-              atoms = λ h. number-item text K startTable R i R′ (omega arith) (number-noted R i R′ startTable _ words) .1 .noted;
-              others = λ _. words .arrives;
-            };
-        kept = words .kept;
-      }
-    where
-      words : WordsAt R i 0 0 0 0 R′
-      words = words-stored i w s refl refl refl refl
+    pub bracket-notes : kind K i ≡ 4 → NotesToken text K R i R′
+    bracket-notes k = record { noted = record { atoms = λ h. absurd (omega arith); opens = λ _. words .arrives }; kept = words .kept }
 
 -- One token more.
 module _ {text : Bytes} {K : List ℕ} where
@@ -92,7 +92,7 @@ module _ {text : Bytes} {K : List ℕ} where
   noted-token-kept {R} {R′} {j} i l k t =
       record {
         atoms = λ h. noted-kept (λ m w. k .same m j w (inl l)) (t .atoms h);
-        others = λ d. k .same 3 j (omega arith) (inl l) ∙ t .others d;
+        opens = λ d. k .same 3 j (omega arith) (inl l) ∙ t .opens d;
       }
 
   pub none-noted : (R : List ℕ) → NotesAll text K 0 R R
@@ -105,3 +105,9 @@ module _ {text : Bytes} {K : List ℕ} where
         noted = λ j h. below j i (λ l. noted-token-kept i l (t .kept) (a .noted j l)) (λ l. let e : j ≡ i = omega arith in rw e (t .noted));
         kept = kept-join 0 (suc i) (a .kept) (t .kept) (omega arith) (omega arith) (omega arith) (omega arith);
       }
+
+  -- Nothing is noted of a closing bracket.
+  pub passed-over : {i : ℕ} {R M : List ℕ} → NotesAll text K i R M → kind K i ≡ 5 → NotesAll text K (suc i) R M
+  passed-over {i} {R} {M} a k =
+      next-noted a
+      (record { noted = record { atoms = λ h. absurd (omega arith); opens = λ e. absurd (omega arith) }; kept = kept-none M i (suc i) })

@@ -2,16 +2,16 @@
 -- For the starting operators the table is computed: a name is none of theirs if it differs from each in its length or in a byte.
 use mathlib.Core.Path.{_≡_, refl, sym, ap, _∙_}
 use mathlib.Core.Bool.{Bool, true, false}
-use mathlib.Core.Logic.{_⊎_, inl, inr}
+use mathlib.Core.Logic.{_⊎_, inl, inr, ⊎-elim}
 use mathlib.Core.List.{List, [], _∷_, map}
-use Prim.Native.Nat.{ℕ, zero, suc, _<_}
+use Prim.Native.Nat.{ℕ, zero, suc, _≤_, _<_}
 use native.Mathlib.Omega.{arith}
 use lib.ListN.{length, getD}
 use Rattle.grammar.specs.Bytes.{Bytes, bytes, same, All}
 use Rattle.grammar.specs.Operator.{Fixity, Table, role, declareRole}
 use Rattle.grammar.specs.Declaration.{declare, declareAll, startDeclarations, startTable}
 use Rattle.grammar.proofs.Logic.{same-eq}
-use Rattle.starting_operators.specs.Starting.{numberIn, rolesAt, startNumber, startRoles}
+use Rattle.starting_operators.specs.Starting.{numberIn, rolesAt, startNumber, startRoles, Unnumbered}
 
 -- Two names differ in their length or in one of the first three bytes.
 abbrev pub Differs : Bytes → Bytes → Type 0
@@ -91,6 +91,9 @@ module _ (name : Bytes) where
   pub start-name : IsNumber name operator-names (startNumber name)
   unfolding startNumber startTable startDeclarations declareAll declare declareRole same
   start-name = number-name name startTable
+
+  pub beyond-unnumbered : 8 ≤ startNumber name → Unnumbered name
+  beyond-unnumbered h = ⊎-elim (λ e. e) (λ n. absurd (omega arith)) start-name
 
   pub start-roles : (f : Fixity) → startRoles (startNumber name) f ≡ role startTable name f
   unfolding startNumber startRoles

@@ -2,6 +2,7 @@
 use mathlib.Core.Path.{_≡_}
 use mathlib.Core.Bool.{true, false}
 use mathlib.Core.List.{List, [], _∷_}
+use mathlib.Core.Logic.{_⊎_}
 use mathlib.Core.Option.{none}
 use Prim.Native.Nat.{ℕ, zero, suc, _≤_, _<_}
 use lib.ListN.{length}
@@ -9,9 +10,11 @@ use Rattle.grammar.specs.Bytes.{Bytes, same}
 use Rattle.grammar.specs.Operator.{Roles, Table}
 use Rattle.grammar.specs.Scan.{Placed}
 use Rattle.grammar.specs.Declaration.{startTable}
-use Rattle.rows.specs.Fields.{kind, arrival, Holds}
-use Rattle.rows.specs.Tokens.{atomIn, IsAtomKind, Stored}
+use Rattle.rows.specs.Fields.{kind, start, size, closer, arrival, Holds}
+use Rattle.rows.specs.Tokens.{charactersOf, atomIn, IsAtomKind, Stored}
 use Rattle.rows.specs.Agreeing.{Noted, KeptOutside}
+use Rattle.rows.specs.declared.class.Class.{Class}
+use Rattle.rows.specs.declared.class.Class.the-variants.{Name, Number, Operator, Bracket, Block}
 
 -- The number of the operator that has the name, as many as there are if none has it; and the roles of the operator with a number.
 unfoldable pub numberIn : Table → Bytes → ℕ
@@ -30,18 +33,32 @@ startNumber name = numberIn startTable name
 unfoldable pub startRoles : ℕ → Roles
 startRoles n = rolesAt startTable n
 
--- `n` tokens of the text, with a row for their roles.
+-- A name that none of them has.
+abbrev pub Unnumbered : Bytes → Type 0
+Unnumbered name = startNumber name ≡ 8
+
+-- `n` tokens of the text, atoms and brackets, with a row for their roles.
 pub record Notable (text : Bytes) (K R : List ℕ) (n : ℕ) : Type 0 where
   pub placed : List Placed
   pub stored : Stored text placed K
   pub within : n ≤ length placed
+  pub flat : (j : ℕ) → j < n → kind K j ≤ 5
   pub tokens : Holds 4 K n
   pub roles : Holds 4 R n
 
--- Token `i` has the roles of an atom under the starting operators, or is no operator.
+-- The class of token `i`, which is no closing bracket.
+abbrev pub IsClass : Bytes → List ℕ → ℕ → Class → Type 0
+IsClass text K i (Operator k) = (kind K i ≡ 1) × (k ≡ startNumber (charactersOf text K i))
+IsClass text K i (Name s n) =
+    (s ≡ start K i) × (n ≡ size K i) × (((kind K i ≡ 1) × Unnumbered (charactersOf text K i)) ⊎ (kind K i ≡ 3))
+IsClass text K i Number = kind K i ≡ 2
+IsClass text K i (Bracket c) = (kind K i ≡ 4) × (closer K i ≡ c)
+IsClass text K i (Block c) = ⊥
+
+-- Token `i` has the roles of an atom under the starting operators, or is no operator if it opens a bracket pair.
 pub record NotedToken (text : Bytes) (K R : List ℕ) (i : ℕ) : Type 0 where
   pub atoms : IsAtomKind (kind K i) → Noted startTable R i (atomIn text K i)
-  pub others : (IsAtomKind (kind K i) → ⊥) → arrival R i ≡ 0
+  pub opens : kind K i ≡ 4 → arrival R i ≡ 0
 
 -- So it is noted of one token, and of `n`; the rest of the row is as it was.
 pub record NotesToken (text : Bytes) (K R : List ℕ) (i : ℕ) (R′ : List ℕ) : Type 0 where

@@ -13,7 +13,7 @@ use Rattle.operators.specs.Entries.{codedFind, tableBy, IsName, Quickly}
 use Rattle.operators.specs.declared.table.Found.{Found}
 use Rattle.operators.specs.declared.table.Found.the-variants.{Nothing}
 use Rattle.resolving.specs.Resolving.{codedClass}
-use Rattle.resolving.specs.declared.Class.the-variants.{Name, Bracket, Block}
+use Rattle.rows.specs.declared.class.Class.the-variants.{Name, Bracket, Block}
 use Rattle.resolving.proofs.Classes.{class-operator, class-name, class-number, class-bracket, class-block, class-other, part-within, part-is, part-named}
 use Rattle.resolving.proofs.classify.Statement.{statement}
 use Rattle.resolving.proofs.classify.Tie as tie

@@ -6,9 +6,10 @@ use borrow.Author.Needs.{needs}
 use lib.ListN.{length}
 use Rattle.operators.specs.Entries.{tableBy}
 use Rattle.operators.specs.declared.table.Table.{Table}
-use Rattle.resolving.specs.declared.Class.{Class}
+use Rattle.rows.specs.declared.class.Class.{Class}
 use Rattle.operators.proofs.Lookups.{found-below}
-use Rattle.rows.proofs.Noting.{words-stored, number-noted, symbol-item, number-item}
+use Rattle.rows.proofs.Noting.{words-stored, number-noted, symbol-item, number-item, name-item}
+use Rattle.resolving.specs.Resolving.{Unfound}
 use Rattle.resolving.proofs.Classes.{
   Says,
   found-says,
@@ -17,7 +18,6 @@ use Rattle.resolving.proofs.Classes.{
   part-is,
   part-named,
   name-kind,
-  name-item,
 }
 use Rattle.resolving.proofs.note.Statement.{statement}
 use Rattle.resolving.proofs.note.Tie as tie
@@ -133,7 +133,7 @@ returns-2 c =
     let d = n .before .before in
     let p = entry d .pre .0 in
     let s = says d _ (n .start .given .1) in
-    name-item _ _ (operators d) _ _ _ (k .kind .ensures) (part-is (p .1) (p .2) (s .0) (s .1)) (s .2) (o .store-name .ensures)
+    name-item _ _ _ _ _ _ (Unfound _ (operators d)) (k .kind .ensures) (part-is (p .1) (p .2) (s .0) (s .1)) (s .2) (o .store-name .ensures)
 
 same-length-3 : tie.Need-same-length-3
 same-length-3 c = search needs

@@ -6,21 +6,25 @@ use Rattle.grammar.specs.Operator.{lawfulTable}
 use Rattle.grammar.specs.Declaration.{startTable}
 use Rattle.grammar.proofs.Operators.{distinct-start}
 use Rattle.grammar.proofs.ConditionsTest.{conditions-complete, conditions-start}
+use Rattle.rows.specs.Tokens.{Unblocked}
 use Rattle.operators.proofs.Roles.{failed}
 use Rattle.resolving.specs.Resolving.{Resolving}
 use Rattle.resolving.proofs.WithoutBlocks.{notable, blockless-resolves}
 use Rattle.resolving.proofs.resolve_text.Statement.{statement}
 use Rattle.resolving.proofs.resolve_text.Tie as tie
 
+-- There are no blocks.
+unblocked : (c : tie.Then1) → let a = c .before .before .before .before .args in Unblocked (a .tokens .now) (a .count)
+unblocked c = c .before .before .before .before .pre .1 (failed refl (c .if1 .taken))
+
 note-all-requires : tie.Need-note-all-requires
-note-all-requires c κs = notable (c .before .before .before .before .before .pre .0)
+note-all-requires c κs = let b = c .before in notable (b .before .before .before .before .pre .0) (unblocked b)
 
 returns : tie.Need-returns
 returns c =
     let n = c .before .before in
     let b = n .before .before in
-    let p = b .before .before .before .before .pre in
-    blockless-resolves (p .0) _ (p .1 (failed refl (b .if1 .taken))) (n .note-all .ensures)
+    blockless-resolves (b .before .before .before .before .pre .0) (unblocked b) _ (n .note-all .ensures)
 
 new-requires : tie.Need-new-requires
 new-requires c κs = search needs

@@ -1,54 +1,48 @@
--- The characters of a symbol or a quoted name lie in the text, and what is stored is what the operator with their number has; any other
--- token has four zeros.
-use mathlib.Core.Path.{_≡_, ap, _∙_}
-use Prim.Native.Nat.{ℕ, _+_, _-_, _≤_}
+-- The class says what the token is, and what is stored is what the operator with the number of its characters has; a number and a bracket
+-- have four zeros.
+use mathlib.Core.Path.{_≡_, subst}
+use Prim.Native.Nat.{_+_, _≤_}
 use native.Mathlib.Omega.{arith}
-use lib.ListN.{length, take, drop}
+use lib.ListN.{length}
 use borrow.Author.Needs.{needs}
-use Rattle.rows.specs.Fields.{kind, start, size}
-use Rattle.rows.specs.Tokens.{charactersOf}
+use Rattle.rows.specs.Fields.{Within}
+use Rattle.rows.specs.declared.class.Class.{Class}
 use Rattle.rows.proofs.Stored.{part-ends, part-characters}
-use Rattle.starting_operators.specs.Starting.{startNumber}
-use Rattle.starting_operators.proofs.NotedTokens.{stands, roles-within, symbol-notes, quoted-notes, other-notes}
+use Rattle.rows.proofs.Noting.{symbol-item, name-item}
+use Rattle.starting_operators.specs.Starting.{IsClass, Unnumbered}
+use Rattle.starting_operators.proofs.NotedTokens.{stands, roles-within, symbol-noted, atom-notes, number-notes, bracket-notes}
 use Rattle.starting_operators.proofs.notes.note.Statement.{statement}
 use Rattle.starting_operators.proofs.notes.note.Tie as tie
 
--- The entry, and the kind of the token.
-abbrev entry : tie.After-kind → tie.Start
+abbrev entry : tie.After-classify → tie.Start
 entry c = c .before .before .before .before
 
-abbrev kind-at : tie.After-kind → ℕ
-kind-at c = let a = entry c .args in kind (a .tokens .now) (a .i)
+-- What the class says, the words of the token, and where the characters of a name end.
+says : (c : tie.After-classify) (x : Class) → c .classify .result ≡ x
+    → let a = entry c .args in IsClass (a .text .now) (a .tokens .now) (a .i) x
+says c x e = let a = entry c .args in subst (IsClass (a .text .now) (a .tokens .now) (a .i)) e (c .classify .ensures)
 
-is-symbol : (c : tie.Then1) → kind-at (c .before) ≡ 1
-is-symbol c = omega arith
+here : (c : tie.After-classify) → let a = entry c .args in Within 4 (a .roles .now) (a .i)
+here c = let e = entry c .pre .0 in roles-within (e .1) (e .2)
 
-is-quoted : (c : tie.Then2) → kind-at (c .before .before) ≡ 3
-is-quoted c = omega arith
+ends : (c : tie.After-start) → c .start .given .0 .0 + c .start .given .0 .1 .0 ≤ length (entry (c .before .before) .args .text .now)
+ends c =
+    let d = c .before .before in
+    let s = says d _ (c .start .given .1) in
+    let e = entry d .pre .0 in
+    part-ends (e .1 .stored) _ (stands (e .1) (e .2)) (s .0) (s .1)
 
-is-other : (c : tie.Else2) → let k = kind-at (c .before .before) in (k ≡ 1 → ⊥) × (k ≡ 3 → ⊥)
-is-other c = omega arith
-
--- Where its characters end, and which operator's name they are.
-module _
-    (c : tie.After-kind)
-    {s n : ℕ}
-    (a : let x = entry c .args in s ≡ start (x .tokens .now) (x .i))
-    (b : let x = entry c .args in n ≡ size (x .tokens .now) (x .i))
-  where
-    ends : s + n ≤ length (entry c .args .text .now)
-    ends = let p = entry c .pre in part-ends (p .1 .stored) _ (stands (p .1) (p .2)) a b
-
-    numbered :
-        {r : ℕ} → let x = entry c .args in
-        r ≡ startNumber (take (s + n - s) (drop s (x .text .now))) → r ≡ startNumber (charactersOf (x .text .now) (x .tokens .now) (x .i))
-    numbered e = let x = entry c .args in e ∙ ap startNumber (part-characters _ (x .tokens .now) (x .i) a b)
+classify-requires : tie.Need-classify-requires
+classify-requires c κs = let e = c .before .before .before .pre in ((e .0 .0, _, e .0 .1, e .0 .2), e .1)
 
 add-e : tie.Need-add-e
-add-e c = let k = c .before .before .before in omega (arith, ends k (c .before .start .ensures) (c .size .ensures), entry k .good .0)
+add-e c = let k = c .before in omega (arith, ends k, entry (k .before .before) .good .0)
 
-part-number-end : tie.Need-part-number-end
-part-number-end c = let k = c .before .before .before in omega (arith, ends k (c .before .start .ensures) (c .size .ensures))
+part-note-name-end : tie.Need-part-note-name-end
+part-note-name-end c = omega (arith, ends (c .before .before))
+
+note-name-requires : tie.Need-note-name-requires
+note-name-requires c κs = here (c .before .before .before .before .before .before)
 
 returns : tie.Need-returns
 returns c =
@@ -56,76 +50,74 @@ returns c =
     let a = t .before in
     let i = a .before in
     let p = i .before in
-    let n = p .before .before in
-    let z = n .before .before in
-    let k = z .before .before .before in
-    let e = entry k .pre in
-    symbol-notes _ _ _ _ _ (roles-within (e .1) (e .2))
-    (numbered k (z .before .start .ensures) (z .size .ensures) (n .number .ensures))
-    (p .prefix .ensures) (i .«infix» .ensures) (t .set .ensures) (is-symbol (z .before .before)) (a .arrival .ensures)
-
-add-e-2 : tie.Need-add-e-2
-add-e-2 c =
-    let k = c .before .before .before .before in
-    omega (arith, ends k (c .before .start2 .ensures) (c .size2 .ensures), entry k .good .0)
-
-part-number-end-2 : tie.Need-part-number-end-2
-part-number-end-2 c =
-    let k = c .before .before .before .before in
-    omega (arith, ends k (c .before .start2 .ensures) (c .size2 .ensures))
+    let k = p .before .before .before in
+    let d = k .before .before in
+    let s = says d _ (k .entry .given .1) in
+    atom-notes _ _ _ _ _
+    (symbol-item _ _ _ _ _ _ (s .0)
+    (symbol-noted _ _ _ _ (here d) (s .1) (p .prefix .ensures) (i .«infix» .ensures) (t .set .ensures) (a .arrival .ensures)))
 
 returns-2 : tie.Need-returns-2
 returns-2 c =
-    let t = c .before .before in
-    let i = t .before in
-    let p = i .before in
-    let n = p .before .before in
-    let z = n .before .before in
-    let k = z .before .before .before .before in
-    let e = entry k .pre in
-    quoted-notes _ _ _ _ _ (roles-within (e .1) (e .2))
-    (numbered k (z .before .start2 .ensures) (z .size2 .ensures) (n .number2 .ensures))
-    (p .prefix2 .ensures) (i .infix2 .ensures) (t .set2 .ensures) (is-quoted (z .before .before))
+    let o = c .before .before in
+    let k = o .before .before .before in
+    let n = k .before .before in
+    let d = n .before .before in
+    let a = entry d .args in
+    let s = says d _ (n .start .given .1) in
+    atom-notes _ _ _ _ _
+    (name-item _ _ _ _ _ _ Unnumbered (k .kind .ensures) (part-characters _ (a .tokens .now) (a .i) (s .0) (s .1)) (s .2) (o .note-name .ensures))
 
 returns-3 : tie.Need-returns-3
 returns-3 c =
     let t = c .before .before in
-    let o = t .before .before in
-    let e = entry (o .before .before) .pre in
-    let d = is-other o in
-    other-notes _ _ _ _ _ (roles-within (e .1) (e .2)) (t .set3 .ensures) (d .0) (d .1)
+    let n = t .before .before in
+    let d = n .before .before in
+    number-notes _ _ _ _ _ (here d) (t .set2 .ensures) (says d _ (n .enum-told .given .1))
+
+returns-4 : tie.Need-returns-4
+returns-4 c =
+    let t = c .before .before in
+    let n = t .before .before in
+    let d = n .before .before in
+    bracket-notes _ _ _ _ _ (here d) (t .set3 .ensures) (says d _ (n .enum-told2 .given .1) .0)
+
+returns-5 : tie.Need-returns-5
+returns-5 c =
+    let n = c .before .before .before .before in
+    absurd (says (n .before .before) _ (n .enum-told3 .given .1))
 
 -- The other needs: the token stands in both rows, and the rows keep their lengths.
 pub note-spec : {M : Type 1} → statement M
 note-spec =
     tie.close
     (tie.spec
+    classify-requires
+    (λ c. search needs)
     (λ c κs. search needs)
     (λ c κs. search needs)
     (λ c κs. search needs)
+    (λ c κs. search needs)
+    (λ c. search needs)
     add-e
+    (λ c κs. search needs)
     (λ c. search needs)
     (λ c. search needs)
-    part-number-end
+    part-note-name-end
+    note-name-requires
+    (λ c. search needs)
     (λ c κs. search needs)
+    (λ c. search needs)
     (λ c κs. search needs)
-    (λ c κs. search needs)
-    (λ c κs. search needs)
+    (λ c. search needs)
     (λ c κs. search needs)
     (λ c. search needs)
     returns
-    (λ c κs. search needs)
-    (λ c κs. search needs)
-    add-e-2
-    (λ c. search needs)
-    (λ c. search needs)
-    part-number-end-2
-    (λ c κs. search needs)
-    (λ c κs. search needs)
-    (λ c κs. search needs)
-    (λ c κs. search needs)
     (λ c. search needs)
     returns-2
-    (λ c κs. search needs)
     (λ c. search needs)
-    returns-3)
+    returns-3
+    (λ c. search needs)
+    returns-4
+    (λ c. search needs)
+    returns-5)

@@ -1,11 +1,12 @@
 -- The tokens before number `i` are noted, and the rest of the row is as it was; each turn notes one token more.
 use mathlib.Core.Path.{_≡_}
-use Prim.Native.Nat.{_-_, _≤_}
+use mathlib.Core.Logic.{⊎-elim}
+use Prim.Native.Nat.{suc, _-_, _≤_, _<_}
 use native.Mathlib.Numerals.{add-one}
 use native.Mathlib.Omega.{arith}
 use borrow.Author.Needs.{needs}
 use Rattle.starting_operators.specs.Starting.{NotesAll}
-use Rattle.starting_operators.proofs.NotedTokens.{none-noted, next-noted, notable-kept}
+use Rattle.starting_operators.proofs.NotedTokens.{none-noted, next-noted, passed-over, notable-kept}
 use Rattle.starting_operators.proofs.notes.note_all.Statement.{statement}
 use Rattle.starting_operators.proofs.notes.note_all.Tie as tie
 
@@ -20,21 +21,28 @@ loop-holds c = (omega arith, none-noted _)
 
 note-requires : tie.Need-note-requires Inv-loop μ-loop
 note-requires c κs =
-    let l = c .before .before in
+    let k = c .before .before in
+    let l = k .before .before in
     let e = l .before .before .before .before in
-    (e .args .count, notable-kept (e .pre) (l .loop .inv .1 .kept .long), omega arith)
+    let h : l .loop .i < e .args .count = k .before .loop-test .taken in (
+      (e .args .count, notable-kept (e .pre) (l .loop .inv .1 .kept .long), h),
+      omega (arith, e .pre .flat (l .loop .i) h, k .kind .ensures, c .before .if1 .taken),
+    )
 
-add-i : tie.Need-add-i Inv-loop μ-loop
-add-i c = search needs
-
-loop-less : tie.Need-loop-less Inv-loop μ-loop
-loop-less c = search needs
+-- Where the ways meet: the token was noted, or is a closing bracket.
+next : (c : tie.Joined1 Inv-loop μ-loop)
+    → let l = c .before .before .before in
+    let a = l .before .before .before .before .args in
+    NotesAll (a .text .now) (a .tokens .now) (suc (l .loop .i)) (a .roles .now) (c .if1 .roles)
+next c =
+    let l = c .before .before .before in
+    ⊎-elim
+    (λ w. rw (w .5) (next-noted (l .loop .inv .1) (w .2 .ensures)))
+    (λ w. rw (w .1) (passed-over (l .loop .inv .1) (omega (arith, c .before .kind .ensures, w .0 .left))))
+    (c .if1 .came)
 
 loop-again : tie.Need-loop-again Inv-loop μ-loop
-loop-again c =
-    let n = c .before .before in
-    let l = n .before .before .before in
-    (omega arith, rw add-one (next-noted (l .loop .inv .1) (n .note .ensures)))
+loop-again c = (omega arith, rw add-one (next c))
 
 same-length : tie.Need-same-length Inv-loop μ-loop
 same-length c = c .before .loop .inv .1 .kept .long
@@ -52,9 +60,10 @@ note-all-spec =
     Inv-loop
     μ-loop
     loop-holds
+    (λ c κs. search needs)
     note-requires
-    add-i
-    loop-less
+    (λ c. search needs)
+    (λ c. search needs)
     loop-again
     same-length
     returns)

@@ -1,4 +1,5 @@
--- What an operator is when it comes computes from its roles; from 8 on there is no operator.
+-- What an operator is when it comes computes from its roles; two arms stand for two operators each.
+-- From number 8 on there is no operator.
 use mathlib.Core.Path.{_≡_}
 use Prim.Native.Nat.{ℕ, _≤_}
 use native.Mathlib.Omega.{arith}

@@ -1,4 +1,5 @@
--- The numbers of the infix roles compute; `not` has none, and from 8 on there is no operator.
+-- The number of each infix role computes; two arms stand for two operators each.
+-- `not` has no infix role, and from number 8 on there is no operator.
 use mathlib.Core.Path.{_≡_}
 use Prim.Native.Nat.{ℕ}
 use native.Mathlib.Omega.{arith}

@@ -1,4 +1,5 @@
--- Each way to a number goes by all bytes of that operator's name; on every other way the length or a byte is none of theirs.
+-- Each way to a number goes by all bytes of that operator's name.
+-- On every other way the name differs from each of the eight in its length or in a byte.
 use mathlib.Core.Logic.{⊎-elim}
 use native.Mathlib.Omega.{arith}
 use borrow.Author.Needs.{needs}

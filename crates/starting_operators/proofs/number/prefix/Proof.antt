@@ -1,4 +1,5 @@
--- The numbers of the roles of `not` and `-` compute; no other operator has a prefix role.
+-- The numbers of the prefix roles of `not` and `-` compute.
+-- No other operator has a prefix role: by cases on the number.
 use borrow.Author.Needs.{needs}
 use Rattle.starting_operators.proofs.Roles.{codes, no-prefix}
 use Rattle.starting_operators.proofs.number.prefix.Statement.{statement}
