@@ -4,6 +4,7 @@ pub mod Numbered
 pub mod TableEntries
 pub mod Searches
 pub mod Starts
+pub mod StartTable
 pub mod SoundEntries
 pub mod Declaring
 pub mod Clearing

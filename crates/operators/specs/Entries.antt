@@ -5,14 +5,15 @@ use mathlib.Core.List.{List, [], _∷_}
 use mathlib.Core.Option.{some}
 use Prim.Native.Nat.{ℕ, zero, suc, _+_, _-_, _*_, _≤_, _<_}
 use lib.Dec.{ltb, leb}
-use lib.ListN.{length, take, drop, getD}
+use lib.ListN.{length, take, drop, getD, set}
 use Rattle.grammar.specs.Fault.{longestText}
 use Rattle.grammar.specs.Bytes.{Bytes, bytes, same}
 use Rattle.grammar.specs.Operator.{Role}
 use Rattle.grammar.specs.Operator as G
 use Rattle.grammar.specs.Declaration.{mostOperators, startTable}
 use Rattle.grammar.specs.Coded.{fixityOf}
-use Rattle.rows.specs.Codes.{roleOf, rolesOf, IsRole}
+use Rattle.rows.specs.Codes.{roleCode, roleOf, rolesOf, IsRole}
+use Rattle.starting_operators.specs.Starting.{startRoles}
 use Rattle.operators.specs.declared.table.Found.{Found}
 use Rattle.operators.specs.declared.table.Found.the-variants.{At, Nothing}
 use Rattle.operators.specs.declared.table.Quick.{Quick}
@@ -97,6 +98,21 @@ pub record Sound (text : Bytes) (t : Table) : Type 0 where
   pub hinted : (j : ℕ) → j < t .count → 0 < getD (t .hints) (hashOf (nameAt text (t .words) j)) 0
   pub distinct : G.Distinct (tableOf text t)
   pub alive : G.Alive (tableOf text t)
+
+-- The words and the hints with the entry of the starting operator with number `n`; and room for it.
+abbrev pub startedWords : List ℕ → ℕ → Bytes → List ℕ
+startedWords W n name =
+    set (set (set (set W (n * 5 + 0) (longestText + n * 3)) (n * 5 + 1) (length name)) (n * 5 + 2) (roleCode (startRoles n G.Prefix))) (n * 5 + 3)
+    (roleCode (startRoles n G.Infix))
+
+abbrev pub startedHints : List ℕ → ℕ → Bytes → List ℕ
+startedHints H n name = set H (hashOf name) (n + 1)
+
+pub record Puttable (W H : List ℕ) (n : ℕ) (name : Bytes) : Type 0 where
+  pub words : length W ≡ 320
+  pub hints : length H ≡ 128
+  pub starting : n < 8
+  pub named : (1 ≤ length name) × (length name ≤ 63)
 
 -- The table of the starting operators, whatever the text.
 abbrev pub Starting : Table → Type 0

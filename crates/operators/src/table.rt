@@ -8,7 +8,7 @@ ghost use Prim.Native.Nat.{ℕ, _≤_, _<_};
 ghost use Rattle.grammar.specs.Bytes.{Bytes, same};
 ghost use Rattle.grammar.specs.Operator.{lawfulTable};
 ghost use Rattle.operators.specs.Entries.{word, nameStart, nameSize, nameIn, nameAt, Stands, codedFind, operatorsFrom, tableBy, hashOf, Sound};
-ghost use Rattle.operators.specs.Entries.{Starting, IsName, Quickly, Declarable, Declared, Clearable, Cleared};
+ghost use Rattle.operators.specs.Entries.{Puttable, startedWords, startedHints, Starting, IsName, Quickly, Declarable, Declared, Clearable, Cleared};
 
 pub const MAX_OPERATORS: usize = 64;
 
@@ -190,50 +190,40 @@ pub fn find<'a>(
     Found::Nothing
 }
 
+// The entry of the starting operator with a number and a name, where nothing stands yet, and the hint for its hash.
+fn put(words: &mut [u16], hints: &mut [u8], number: usize, name: &[u8])
+    requires { ⌜ Puttable (now words) (now hints) number (now name) ⌝ }
+    ensures { λ _. ⌜ (now (words .exit) ≡ startedWords (now (words .entry)) number (now (name .entry)))
+        × (now (hints .exit) ≡ startedHints (now (hints .entry)) number (now (name .entry))) ⌝ }
+{
+    let w = number * WORDS;
+    words[w + START] = (NAMES + number * 3) as u16;
+    words[w + SIZE] = name.len() as u16;
+    words[w + PREFIX] = number::prefix(number);
+    words[w + INFIX] = number::infix(number);
+    hints[hash(name)] = (number + 1) as u8;
+}
+
 impl Table {
     // The starting operators.
     pub fn new() -> Table
         ensures { λ r. ⌜ Starting r ⌝ }
     {
-        let mut t = Table {
-            words: [0u16; 320],
-            hints: [0u8; 128],
+        let mut words = [0u16; 320];
+        let mut hints = [0u8; 128];
+        put(&mut words, &mut hints, number::OR, b"or");
+        put(&mut words, &mut hints, number::AND, b"and");
+        put(&mut words, &mut hints, number::NOT, b"not");
+        put(&mut words, &mut hints, number::EQUAL, b"=");
+        put(&mut words, &mut hints, number::LESS, b"<");
+        put(&mut words, &mut hints, number::PLUS, b"+");
+        put(&mut words, &mut hints, number::MINUS, b"-");
+        put(&mut words, &mut hints, number::TIMES, b"*");
+        Table {
+            words,
+            hints,
             count: number::COUNT,
-        };
-        t.words[0] = 16384;
-        t.words[1] = 2;
-        t.words[3] = role::LEFT + number::DISJUNCTION;
-        t.hints[72] = 1;
-        t.words[5] = 16387;
-        t.words[6] = 3;
-        t.words[8] = role::LEFT + number::CONJUNCTION;
-        t.hints[48] = 2;
-        t.words[10] = 16390;
-        t.words[11] = 3;
-        t.words[12] = role::RIGHT + number::NEGATION;
-        t.hints[74] = 3;
-        t.words[15] = 16393;
-        t.words[16] = 1;
-        t.words[18] = role::NON + number::COMPARISON;
-        t.hints[61] = 4;
-        t.words[20] = 16396;
-        t.words[21] = 1;
-        t.words[23] = role::NON + number::COMPARISON;
-        t.hints[60] = 5;
-        t.words[25] = 16399;
-        t.words[26] = 1;
-        t.words[28] = role::LEFT + number::SUM;
-        t.hints[43] = 6;
-        t.words[30] = 16402;
-        t.words[31] = 1;
-        t.words[32] = role::NON + number::SUM;
-        t.words[33] = role::LEFT + number::SUM;
-        t.hints[45] = 7;
-        t.words[35] = 16405;
-        t.words[36] = 1;
-        t.words[38] = role::LEFT + number::PRODUCT;
-        t.hints[42] = 8;
-        t
+        }
     }
 
     // A declared role replaces the operator's former role of that fixity. `found` says where the table has the name.

@@ -5,21 +5,21 @@ ghost use Rattle.grammar.specs.Operator.{Prefix, Infix};
 ghost use Rattle.rows.specs.Codes.{roleCode, arrivalOf};
 ghost use Rattle.starting_operators.specs.Starting.{startNumber, startRoles};
 
-const OR: usize = 0;
+pub const OR: usize = 0;
 
-const AND: usize = 1;
+pub const AND: usize = 1;
 
-const NOT: usize = 2;
+pub const NOT: usize = 2;
 
-const EQUAL: usize = 3;
+pub const EQUAL: usize = 3;
 
-const LESS: usize = 4;
+pub const LESS: usize = 4;
 
-const PLUS: usize = 5;
+pub const PLUS: usize = 5;
 
-const MINUS: usize = 6;
+pub const MINUS: usize = 6;
 
-const TIMES: usize = 7;
+pub const TIMES: usize = 7;
 
 // How many there are, which stands for none of them too.
 pub const COUNT: usize = 8;

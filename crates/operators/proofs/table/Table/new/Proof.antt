@@ -1,45 +1,28 @@
--- The words and the hints compute to literals, and so do the names, roles and hashes that they stand for.
-use mathlib.Core.Path.{refl}
-use native.Mathlib.Omega.{arith}
+-- Each entry is put by its number and name, and the eight together are the table of the starting operators.
+use lib.ListN.{replicate}
 use borrow.Author.Needs.{needs}
-use Rattle.grammar.specs.Bytes.{same}
-use Rattle.grammar.specs.Operator.{left, right, non, replaced, sameFixity, declareRole}
-use Rattle.grammar.specs.Declaration.{value, valueFrom, declare, declareAll, startDeclarations, startTable}
-use Rattle.rows.specs.Codes.{sideCode, roleOf, rolesOf}
-use Rattle.operators.specs.Entries.{startSize, nameIn, operatorsFrom, tableOf, lessBy, lastTwo, hashOf}
-use Rattle.operators.proofs.Starts.{role-number, none-number, and, starting}
+use Rattle.operators.specs.Entries.{startedWords, startedHints}
+use Rattle.operators.proofs.StartTable.{each-entry, built-starting}
 use Rattle.operators.proofs.table.Table.new.Statement.{statement}
 use Rattle.operators.proofs.table.Table.new.Tie as tie
 
 returns : tie.Need-returns
-unfolding
-    startSize nameIn operatorsFrom tableOf startTable startDeclarations declareAll declare declareRole same replaced sameFixity value valueFrom
-    rolesOf roleOf sideCode lessBy lastTwo hashOf
 returns c =
-    starting
-    _
-    refl
-    (λ text.
-    and refl refl refl refl
-    (and refl refl refl refl
-    (and refl refl refl refl
-    (and refl refl refl refl
-    (and refl refl refl refl
-    (and refl refl refl refl
-    (and refl refl refl refl
-    (and refl refl refl refl refl))))))))
-    (λ text. (
-      record { start = refl; size = refl; roles = (none-number, role-number left 800 refl, none-number); hint = omega arith },
-      record { start = refl; size = refl; roles = (none-number, role-number left 700 refl, none-number); hint = omega arith },
-      record { start = refl; size = refl; roles = (role-number right 600 refl, none-number, none-number); hint = omega arith },
-      record { start = refl; size = refl; roles = (none-number, role-number non 500 refl, none-number); hint = omega arith },
-      record { start = refl; size = refl; roles = (none-number, role-number non 500 refl, none-number); hint = omega arith },
-      record { start = refl; size = refl; roles = (none-number, role-number left 400 refl, none-number); hint = omega arith },
-      record { start = refl; size = refl; roles = (role-number non 400 refl, role-number left 400 refl, none-number); hint = omega arith },
-      record { start = refl; size = refl; roles = (none-number, role-number left 300 refl, none-number); hint = omega arith },
-    ))
+    let p8 = c .before .before in
+    let p7 = p8 .before .before .before .before .before .before in
+    let p6 = p7 .before .before .before .before .before .before in
+    let p5 = p6 .before .before .before .before .before .before in
+    let p4 = p5 .before .before .before .before .before .before in
+    let p3 = p4 .before .before .before .before .before .before in
+    let p2 = p3 .before .before .before .before .before .before in
+    let p1 = p2 .before .before .before .before .before .before in
+    let w = each-entry startedWords {M = replicate 320 0} (p1 .put .ensures .0) (p2 .put2 .ensures .0) (p3 .put3 .ensures .0) (p4 .put4 .ensures .0)
+    (p5 .put5 .ensures .0) (p6 .put6 .ensures .0) (p7 .put7 .ensures .0) (p8 .put8 .ensures .0) in
+    let h = each-entry startedHints {M = replicate 128 0} (p1 .put .ensures .1) (p2 .put2 .ensures .1) (p3 .put3 .ensures .1) (p4 .put4 .ensures .1)
+    (p5 .put5 .ensures .1) (p6 .put6 .ensures .1) (p7 .put7 .ensures .1) (p8 .put8 .ensures .1) in
+    rw (w, h) built-starting
 
--- The other needs: each index is within its array, and the numbers of roles fit.
+-- The other needs: each lent array has its length.
 pub new-spec : {M : Type 1} → statement M
 new-spec =
     tie.close
@@ -47,43 +30,33 @@ new-spec =
     (λ c. search needs)
     (λ c. search needs)
     (λ c. search needs)
+    (λ c κs. search needs)
     (λ c. search needs)
     (λ c. search needs)
     (λ c. search needs)
+    (λ c κs. search needs)
     (λ c. search needs)
     (λ c. search needs)
     (λ c. search needs)
+    (λ c κs. search needs)
     (λ c. search needs)
     (λ c. search needs)
     (λ c. search needs)
+    (λ c κs. search needs)
     (λ c. search needs)
     (λ c. search needs)
     (λ c. search needs)
+    (λ c κs. search needs)
     (λ c. search needs)
     (λ c. search needs)
     (λ c. search needs)
+    (λ c κs. search needs)
     (λ c. search needs)
     (λ c. search needs)
     (λ c. search needs)
+    (λ c κs. search needs)
     (λ c. search needs)
     (λ c. search needs)
     (λ c. search needs)
-    (λ c. search needs)
-    (λ c. search needs)
-    (λ c. search needs)
-    (λ c. search needs)
-    (λ c. search needs)
-    (λ c. search needs)
-    (λ c. search needs)
-    (λ c. search needs)
-    (λ c. search needs)
-    (λ c. search needs)
-    (λ c. search needs)
-    (λ c. search needs)
-    (λ c. search needs)
-    (λ c. search needs)
-    (λ c. search needs)
-    (λ c. search needs)
-    (λ c. search needs)
-    (λ c. search needs)
+    (λ c κs. search needs)
     returns)
