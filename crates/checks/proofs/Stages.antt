@@ -41,6 +41,7 @@ use Rattle.pairing.specs.declared.Paired.{Paired}
 use Rattle.pairing.specs.declared.Paired.the-variants as Pair
 use Rattle.pairing.proofs.TokenKinds.{nesting-by-kinds}
 use Rattle.pairing.proofs.Atoms.{paired-atoms}
+use Rattle.pairing.proofs.Blocks.{no-block}
 use Rattle.resolving.specs.Resolving.{Ranged, Resolves, Resolving}
 use Rattle.resolving.specs.declared.Resolved.{Resolved}
 use Rattle.resolving.specs.declared.Resolved.the-variants as Resolve
@@ -169,6 +170,11 @@ unfolding codedNesting
 nest-passed b (refused m q) c e = impossible cc
 nest-passed b (passed u) c e = refl
 
+nest-blocks : (b : Bool) (o : Outcome (Unit {0})) (c : Bool) → codedNesting b o ≡ Pair.Passed c → b ≡ c
+unfolding codedNesting
+nest-blocks b (refused m q) c e = impossible cc
+nest-blocks b (passed u) c e = cc
+
 module _ {text : Bytes} {K R O : List ℕ} {n : ℕ} (t : Tokenized text K R O n) where
   nested-reads : {k i : ℕ} → nesting [] 0 (tokensOf (t .placed)) ≡ refused k i → readText text ≡ refused k (offsetOf text (t .placed) i)
   unfolding andThen readTokens placed
@@ -199,7 +205,7 @@ module _ {text : Bytes} {K R O : List ℕ} {n : ℕ} (t : Tokenized text K R O n
     pub not-matched : (A B : List ℕ) (k i : ℕ) → r ≡ Pair.Refused k i → Checking text K′ A B (Refused k (offsetIn text K′ n i))
     unfolding still-tokens
     not-matched A B k i e =
-        let p = sym by-kinds ∙ nest-refused _ _ k i (sym (h .answer .1) ∙ e) in
+        let p = sym by-kinds ∙ nest-refused _ _ k i (sym (h .answer) ∙ e) in
         let l = nesting-place (tokensOf (t .placed)) k i p in
         let o = offset-in still-tokens i (omega (arith, t .counted, length-tokens (t .placed))) in
         refusal text K′ A B k (offsetIn text K′ n i) (nested-reads p ∙ ap (refused k) (sym o))
@@ -209,11 +215,11 @@ module _ {text : Bytes} {K R O : List ℕ} {n : ℕ} (t : Tokenized text K R O n
     matched blocks e = (
       record {
         scanned = still-tokens;
-        nests = sym by-kinds ∙ nest-passed _ _ blocks (sym (h .answer .1) ∙ e);
+        nests = sym by-kinds ∙ nest-passed _ _ blocks (sym (h .answer) ∙ e);
         paired = h .closed blocks e;
         flat = λ z. impossible cc;
       },
-      λ z j l k. h .unblocked (e ∙ ap Pair.Passed z) j l (sym (h .kept 0 (omega arith) j) ∙ k),
+      λ z j l k. no-block K n (nest-blocks _ _ blocks (sym (h .answer) ∙ e) ∙ z) j l (sym (h .kept 0 (omega arith) j) ∙ k),
     )
 
   -- Without tokens of structure there is nothing to pair.

@@ -3,3 +3,4 @@ pub mod OpenPairs
 pub mod Walks
 pub mod TokenKinds
 pub mod Atoms
+pub mod Blocks

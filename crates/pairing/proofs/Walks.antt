@@ -1,6 +1,6 @@
 -- What `pair_up` keeps from token to token: the arrays and the row hold what is open, and from there the answer comes out as from the
 -- start. One law for each answer of `move_of`.
-use mathlib.Core.Path.{_≡_, refl, sym, _∙_}
+use mathlib.Core.Path.{_≡_, refl, sym, ap, _∙_}
 use mathlib.Core.Bool.{Bool, true, false}
 use mathlib.Core.List.{List, [], _∷_}
 use Prim.Native.Nat.{ℕ, suc, _+_, _-_, _≤_, _<_}
@@ -8,21 +8,21 @@ use native.Mathlib.Numerals.{add-one}
 use native.Mathlib.Omega.{arith}
 use lib.Dec.{lit≤, lit<}
 use lib.ListN.{length, getD, set, length-set}
-use borrow.Author.Tests.{le-ltb}
+use borrow.Author.Tests.{le-ltb, eq-eqb, ne-eqb}
 use Rattle.grammar.specs.Open.{Open, inBracket, inDeclarations, inBody, deepest}
 use Rattle.grammar.specs.Token.{Structure, structure, structureNumber}
 use Rattle.grammar.specs.Outcome.{refused}
 use Rattle.grammar.specs.Nesting.{Move, stays, enters, becomes, leaves, within, move, closeInnermost, nesting}
 use Rattle.grammar.specs.Coded.{tokenOf}
-use Rattle.grammar.proofs.Logic.{impossible, below}
+use Rattle.grammar.proofs.Logic.{impossible}
 use Rattle.grammar.proofs.Nested.{moved, Allowed, nesting-step, opening-enters, let-enters}
 use Rattle.rows.specs.Fields.{field, kind, store, Holds}
-use Rattle.rows.specs.Tokens.{done, IsAtomKind, Unblocked}
+use Rattle.rows.specs.Tokens.{done, IsAtomKind}
 use Rattle.rows.proofs.Fields.{other-field, store-length}
 use Rattle.pairing.specs.declared.Move as Declared
 use Rattle.pairing.specs.declared.Move.the-variants.{Stay, Break, Open as Opens, Turn, Close}
 use Rattle.pairing.specs.declared.Paired.the-variants.{Passed, Refused}
-use Rattle.pairing.specs.Pairing.{openCode, codedMove, codedNesting, tokensBy, Kinded, Pairing}
+use Rattle.pairing.specs.Pairing.{openCode, codedMove, hasBlock, codedNesting, tokensBy, Kinded, Pairing}
 use Rattle.pairing.proofs.Moves.{Does, opens, closes, separates, begins, turns, ends, breaks, move-does, structure-kind, structure-token, atom-kind-stays}
 use Rattle.pairing.proofs.OpenPairs.{
   OpenPairs,
@@ -69,9 +69,13 @@ Walks K₀ count K S O depth i = (os : List Open) × Walk K₀ count K S O depth
 abbrev pub Made : List ℕ → ℕ → List Open → Declared.Move → Type 0
 Made K i os r = (s : Structure) × (kind K i ≡ structureNumber s) × Does os s r
 
--- What is known of blocks before token `i`: none has its `in` there, unless one was seen.
+-- What was seen before token `i`: whether a block has its `in` there.
 abbrev pub Seen : List ℕ → Bool → ℕ → Type 0
-Seen K₀ blocks i = blocks ≡ false → Unblocked K₀ i
+Seen K₀ blocks i = blocks ≡ hasBlock K₀ i
+
+pub seen-none : (K : List ℕ) → Seen K false 0
+unfolding hasBlock
+seen-none K = refl
 
 -- Only an `in` turns.
 not-in : {os : List Open} {s : Structure} {r : Declared.Move} → Does os s r → (r ≡ Turn → ⊥) → (r ≡ Break → ⊥) → structureNumber s ≡ 8 → ⊥
@@ -84,6 +88,10 @@ not-in turns t b e = t refl
 not-in ends t b e = omega arith
 not-in (breaks x) t b e = b refl
 
+turns-kind : (K : List ℕ) (i : ℕ) {os : List Open} → Made K i os Turn → kind K i ≡ 8
+unfolding structureNumber
+turns-kind K i (s, e, turns) = e
+
 -- The next token and those behind it.
 tokens-next :
     (K : List ℕ) (i count : ℕ) → i < count → tokensBy K i (count - i) ≡ tokenOf (kind K i) [] ∷ tokensBy K (suc i) (count - suc i)
@@ -94,7 +102,7 @@ tokens-next K i count l = let e : count - i ≡ suc (count - suc i) = omega arit
 refusing : {K₀ K : List ℕ} {count n p : ℕ} → Kept K₀ K → nesting [] 0 (tokensBy K₀ 0 count) ≡ refused n p → Pairing K₀ count K (Refused n p)
 unfolding codedNesting
 refusing h e =
-    record { answer = (true, rw e); long = h .long; kept = h .same; closed = λ b f. impossible cc; unblocked = λ f. impossible cc }
+    record { answer = rw e; long = h .long; kept = h .same; closed = λ b f. impossible cc }
 
 module _
     {K₀ : List ℕ} {count : ℕ} {K S O : List ℕ} {depth i : ℕ} {os : List Open} (w : Walk K₀ count K S O depth i os) (l : i < count)
@@ -111,8 +119,12 @@ module _
         (s, e, move-does os s r (rw (structure-token (kind K i) s e) at (f os p)))
 
     seen-next : {blocks : Bool} → (kind K i ≡ 8 → ⊥) → Seen K₀ blocks i → Seen K₀ blocks (i + 1)
-    seen-next n u e j h k =
-        below j i (λ a. u e j a k) (λ a. let z : j ≡ i = omega arith in n (w .kept .same 0 (lit< tt) i ∙ rw z at k))
+    unfolding hasBlock
+    seen-next n u = rw (add-one i, ne-eqb (kind K₀ i) 8 (λ e. n (w .kept .same 0 (lit< tt) i ∙ e)), hasBlock) u
+
+    pub seen-block : Made K i os Turn → Seen K₀ true (i + 1)
+    unfolding hasBlock
+    seen-block m = rw (add-one i, eq-eqb (kind K₀ i) 8 (sym (w .kept .same 0 (lit< tt) i) ∙ turns-kind K i m), hasBlock)
 
     pub seen-atom : {blocks : Bool} → kind K i ≤ 3 → Seen K₀ blocks i → Seen K₀ blocks (i + 1)
     seen-atom h u = seen-next (λ e. omega arith) u
@@ -267,11 +279,10 @@ module _ {K₀ : List ℕ} {count : ℕ} {K S O : List ℕ} {depth i : ℕ} (l :
   walk-passed [] blocks w u h =
       let e : i ≡ count = omega (arith, w .behind) in
       record {
-        answer = (blocks, rw (answer-end w));
+        answer = rw (answer-end w) (ap Passed (u ∙ ap (hasBlock K₀) e));
         long = w .kept .long;
         kept = w .kept .same;
         closed = λ b f. rw e at (pairs-done (w .held));
-        unblocked = λ f. rw e at (u cc);
       }
 
 -- Before the first.

@@ -1,8 +1,9 @@
 -- Checks 6 and 7 over a row of tokens, and the closers that it gets.
 use mathlib.Core.Path.{_≡_}
-use mathlib.Core.Bool.{Bool, false}
+use mathlib.Core.Bool.{Bool, true, false}
 use mathlib.Core.List.{List, [], _∷_}
 use Prim.Native.Nat.{ℕ, zero, suc, _≤_, _<_}
+use lib.Dec.{eqb}
 use lib.ListN.{length}
 use Rattle.grammar.specs.Open.{Open, inBracket, inDeclarations, inBody}
 use Rattle.grammar.specs.Token.{Token}
@@ -37,7 +38,12 @@ unfoldable pub tokensBy : List ℕ → ℕ → ℕ → List Token
 tokensBy K i zero = []
 tokensBy K i (suc n) = tokenOf (kind K i) [] ∷ tokensBy K (suc i) n
 
--- What is answered where there are blocks, or none.
+-- One of `n` tokens is the `in` of a block.
+unfoldable pub hasBlock : List ℕ → ℕ → Bool
+hasBlock K zero = false
+hasBlock K (suc n) = elim (eqb (kind K n) 8) [ true ↦ true | false ↦ hasBlock K n ]
+
+-- What is answered, where there are blocks or none.
 unfoldable pub codedNesting : Bool → Outcome (Unit {0}) → Paired
 codedNesting blocks (refused n p) = Refused n p
 codedNesting blocks (passed u) = Passed blocks
@@ -46,10 +52,9 @@ codedNesting blocks (passed u) = Passed blocks
 abbrev pub Kinded : List ℕ → ℕ → Type 0
 Kinded K n = (j : ℕ) → j < n → (1 ≤ kind K j) × (kind K j ≤ 9)
 
--- What the check answers and writes: only closers, and where it passes the tokens are paired, and are without blocks if it says so.
+-- What the check answers and writes: only closers, and where it passes the tokens are paired.
 pub record Pairing (K : List ℕ) (count : ℕ) (K′ : List ℕ) (r : Paired) : Type 0 where
-  pub answer : (blocks : Bool) × (r ≡ codedNesting blocks (nesting [] 0 (tokensBy K 0 count)))
+  pub answer : r ≡ codedNesting (hasBlock K count) (nesting [] 0 (tokensBy K 0 count))
   pub long : length K′ ≡ length K
   pub kept : (k : ℕ) → k < 3 → (j : ℕ) → field 4 k K′ j ≡ field 4 k K j
   pub closed : (blocks : Bool) → r ≡ Passed blocks → Tokens.Paired K′ 0 count
-  pub unblocked : r ≡ Passed false → Tokens.Unblocked K count

@@ -73,13 +73,13 @@ abbrev pub Resolves : Bytes → List ℕ → List ℕ → Table → ℕ → ℕ 
 Resolves text K R T from to (refused n p) r = r ≡ Refused n p
 Resolves text K R T from to (passed u) r = (r ≡ Passed) × Agrees text K R T from to
 
--- What is noted of the operator of an entry, by whatever name it is found,
+-- What is noted of the operator of an entry, by whatever name it is found.
 abbrev pub OperatorNoted : List ℕ → ℕ → List ℕ → ℕ → List ℕ → Type 0
 OperatorNoted W k R i R′ =
     (text H : List ℕ) (count : ℕ) → Sound text (tableBy W H count) → (name : Bytes) → codedFind text W name 0 count ≡ At k
     → NotedAt (tableOf text (tableBy W H count)) R i (symbol name) R′
 
--- .. and a name that is none's.
+-- A name that no operator of the table has.
 abbrev pub Unfound : Bytes → E.Table → Bytes → Type 0
 Unfound text t name = codedFind text (t .words) name 0 (t .count) ≡ Nothing
 

@@ -27,6 +27,8 @@ use Rattle.pairing.proofs.Walks.{
   Seen,
   seen-atom,
   seen-made,
+  seen-none,
+  seen-block,
 }
 use Rattle.pairing.proofs.pair_up.Statement.{statement}
 use Rattle.pairing.proofs.pair_up.Tie as tie
@@ -73,7 +75,7 @@ closed-open : (c : tie.After-enum-told4 Inv-loop μ-loop) → OpenerBefore (c .b
 closed-open c = closes-open (looped (c .before .before) .loop .inv .0 .1) (closed c)
 
 loop-holds : tie.Need-loop-holds Inv-loop μ-loop
-loop-holds c = (walk-starts _ _ _ _ refl refl refl, λ e j l. absurd (omega arith))
+loop-holds c = (walk-starts _ _ _ _ refl refl refl, seen-none _)
 
 add-next : tie.Need-add-next Inv-loop μ-loop
 add-next c = omega arith
@@ -183,7 +185,7 @@ loop-again-3 c =
     let b = d .before .before .before .before in (
       rw (d .set-closer .ensures)
           (walk-turns (looped b .before .before .pre .0) (taken b) (looped b .loop .inv .0 .1) (turned (d .before .before))),
-      λ e. impossible cc,
+      seen-block (looped b .loop .inv .0 .1) (taken b) (turned (d .before .before)),
     )
 
 enum-told-4 : tie.Need-enum-told-4 Inv-loop μ-loop
