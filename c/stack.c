@@ -132,7 +132,7 @@ static void full_table(const char *associativity)
     repeat("in a", 1);
 }
 
-/* Rows of two sizes: a text of at most 128 bytes has shorter ones. */
+/* Rows of three sizes, by the length of the text. */
 static void try_short(void)
 {
     repeat("a", 1);

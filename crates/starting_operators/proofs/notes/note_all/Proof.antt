@@ -24,7 +24,7 @@ note-requires c κs =
     let k = c .before .before in
     let l = k .before .before in
     let e = l .before .before .before .before in
-    let h : l .loop .i < e .args .count = k .before .loop-test .taken in (
+    let h : l .loop .i < e .args .count = omega (arith, k .before .loop-test .taken) in (
       (e .args .count, notable-kept (e .pre) (l .loop .inv .1 .kept .long), h),
       omega (arith, e .pre .flat (l .loop .i) h, k .kind .ensures, c .before .if1 .taken),
     )
