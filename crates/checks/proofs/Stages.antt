@@ -1,15 +1,14 @@
 -- What each check says of the reading: where one refuses, that is what reading answers; where it passes, what the next one asks.
-use mathlib.Core.Path.{_≡_, refl, sym, ap, subst, _∙_}
+use mathlib.Core.Path.{_≡_, refl, sym, ap, _∙_}
 use mathlib.Core.Bool.{Bool, true, false}
 use mathlib.Core.List.{List, []}
-use Prim.Native.Nat.{ℕ, zero, suc, _+_, _-_, _*_, _≤_, _<_}
+use Prim.Native.Nat.{ℕ, zero, suc, _-_, _*_, _≤_, _<_}
 use native.Mathlib.Omega.{arith}
 use lib.Dec.{ltb}
 use lib.ListN.{length}
 use borrow.Author.Tests.{ltb-true, ltb-false, lt-ltb, le-ltb, le-leb, eq-eqb, ne-eqb}
 use Rattle.grammar.specs.Fault.{longestText, mostTokens}
 use Rattle.grammar.specs.Bytes.{Bytes}
-use Rattle.grammar.specs.Token.{spelling}
 use Rattle.grammar.specs.Outcome.{Outcome, refused, passed, andThen, placed}
 use Rattle.grammar.specs.Scan.{Placed, scan}
 use Rattle.grammar.specs.Nesting.{nesting}
@@ -19,7 +18,7 @@ use Rattle.grammar.specs.Answer.{tokensOf, offsetOf, readText, readTokens}
 use Rattle.grammar.proofs.Scanned.{length-tokens}
 use Rattle.grammar.proofs.Logic.{impossible}
 use Rattle.grammar.proofs.RefusalPlaces.{nesting-place, blocks-place}
-use Rattle.rows.specs.Fields.{kind, start, size, Holds}
+use Rattle.rows.specs.Fields.{kind, start, Holds}
 use Rattle.rows.specs.Tokens.{range, tokenIn, IsAtomKind, Unblocked, Stored}
 use Rattle.rows.proofs.TokenBytes.{token-bytes}
 use Rattle.rows.proofs.Stored.{
@@ -45,7 +44,6 @@ use Rattle.pairing.proofs.Blocks.{no-block}
 use Rattle.resolving.specs.Resolving.{Ranged, Resolves, Resolving}
 use Rattle.resolving.specs.declared.Resolved.{Resolved}
 use Rattle.resolving.specs.declared.Resolved.the-variants as Resolve
-use Rattle.checks.specs.declared.Checked.{Checked}
 use Rattle.checks.specs.declared.Checked.the-variants.{Refused}
 use Rattle.checks.specs.Checking.{Roomy, Checkable, Tokenized, Matched, Classified, offsetIn, Checking}
 

@@ -10,7 +10,7 @@ use lib.Dec.{lit≤, lit<}
 use lib.ListN.{length, getD, set, length-set}
 use borrow.Author.Tests.{le-ltb, eq-eqb, ne-eqb}
 use Rattle.grammar.specs.Open.{Open, inBracket, inDeclarations, inBody, deepest}
-use Rattle.grammar.specs.Token.{Structure, structure, structureNumber}
+use Rattle.grammar.specs.Token.{Structure, structureNumber}
 use Rattle.grammar.specs.Outcome.{refused}
 use Rattle.grammar.specs.Nesting.{Move, stays, enters, becomes, leaves, within, move, closeInnermost, nesting}
 use Rattle.grammar.specs.Coded.{tokenOf}

@@ -5,18 +5,16 @@ use mathlib.Core.Logic.{_⊎_, inl, inr}
 use mathlib.Core.List.{List}
 use Prim.Native.Nat.{ℕ, _+_, _-_, _≤_, _<_}
 use native.Mathlib.Omega.{arith}
-use lib.Dec.{eqb}
 use lib.ListN.{length, take, drop}
 use borrow.Author.Tests.{eq-eqb, ne-eqb}
 use Rattle.grammar.specs.Bytes.{Bytes}
-use Rattle.grammar.specs.Token.{symbol, number, quoted}
 use Rattle.grammar.specs.Operator.{Table}
 use Rattle.grammar.proofs.Logic.{below}
 use Rattle.rows.specs.Fields.{kind, start, size, closer, Within}
-use Rattle.rows.specs.Tokens.{charactersOf, IsAtomKind, Paired, done, single, bracket, block}
+use Rattle.rows.specs.Tokens.{charactersOf, Paired, done, single, bracket, block}
 use Rattle.rows.proofs.Fields.{within}
 use Rattle.rows.proofs.Stored.{part-ends, stored-sized, stored-characters, part-characters}
-use Rattle.operators.specs.Entries.{codedFind, tableOf, IsName}
+use Rattle.operators.specs.Entries.{codedFind, IsName}
 use Rattle.operators.specs.declared.table.Found.{Found}
 use Rattle.operators.specs.declared.table.Found.the-variants.{At, Nothing}
 use Rattle.operators.specs.declared.table.Table as E

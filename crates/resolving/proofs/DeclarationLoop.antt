@@ -15,12 +15,11 @@ use Rattle.grammar.specs.Token.{Token, keywordLet, structureNumber}
 use Rattle.grammar.specs.Outcome.{Outcome, refused, passed, andThen}
 use Rattle.grammar.specs.Scan.{Placed}
 use Rattle.grammar.specs.Answer.{offsetOf}
-use Rattle.grammar.specs.Operator.{Role, declareRole, removeRoles, lawfulTable}
+use Rattle.grammar.specs.Operator.{declareRole, removeRoles, lawfulTable}
 use Rattle.grammar.specs.Operator as G
 use Rattle.grammar.specs.Coded.{kindOf, fixityOf}
 use Rattle.grammar.specs.Declaration.{declaration, mostOperators, enter}
 use Rattle.grammar.specs.Blocks.{bodyTable, checkBlocks}
-use Rattle.grammar.proofs.Logic.{impossible}
 use Rattle.grammar.proofs.Declarations.{enter-sound}
 use Rattle.rows.specs.Fields.{kind, start, size, Holds}
 use Rattle.rows.specs.Codes.{Bounded}

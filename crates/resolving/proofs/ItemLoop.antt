@@ -2,14 +2,14 @@
 -- answer, and a row that goes on from the one now, and agrees with the items from `i` on, agrees with all. A turn answers, or passes over
 -- one item. This holds at every fuel that the range's tokens do not exceed.
 use mathlib.Core.Path.{_≡_, refl, sym, ap, subst, _∙_}
-use mathlib.Core.Logic.{_⊎_, inl, inr}
+use mathlib.Core.Logic.{inl}
 use mathlib.Core.List.{List, [], _∷_}
 use Prim.Native.Nat.{ℕ, zero, suc, _+_, _-_, _≤_, _<_}
 use native.Mathlib.Omega.{arith}
 use native.Mathlib.Numerals.{add-one}
 use lib.ListN.{length}
 use Rattle.grammar.specs.Bytes.{Bytes}
-use Rattle.grammar.specs.Token.{Token, Atom}
+use Rattle.grammar.specs.Token.{Token}
 use Rattle.grammar.specs.Outcome.{Outcome, refused, passed, andThen}
 use Rattle.grammar.specs.Operator.{Table}
 use Rattle.grammar.specs.Declaration.{declarations, allTokens, enter}
@@ -19,7 +19,7 @@ use Rattle.grammar.proofs.Logic.{impossible}
 use Rattle.rows.specs.Fields.{field, kind, closer, arrival}
 use Rattle.rows.specs.Codes.{Bounded}
 use Rattle.rows.specs.Tokens.{atomIn, range, IsAtomKind, Paired}
-use Rattle.rows.specs.Agreeing.{Noted, KeptOutside, NotedAt, Agrees, ends, atoms, brackets, blocks}
+use Rattle.rows.specs.Agreeing.{KeptOutside, NotedAt, Agrees, ends, atoms, brackets, blocks}
 use Rattle.rows.proofs.Ranges.{length-range}
 use Rattle.rows.proofs.PairedItems.{items-done, items-single, items-bracket, items-block, behind-pair, behind-scope}
 use Rattle.rows.proofs.PairedCases.{BracketAt, BlockAt, paired-ordered, paired-single, paired-bracket, paired-block}

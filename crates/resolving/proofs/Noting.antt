@@ -1,11 +1,10 @@
 -- What is noted of a name: one that is found has the roles of its entry, one that is not found has none.
-use mathlib.Core.Path.{_≡_, refl, sym, ap, _∙_}
+use mathlib.Core.Path.{_≡_, sym, ap}
 use mathlib.Core.List.{List}
-use mathlib.Core.Option.{none}
 use Prim.Native.Nat.{ℕ}
 use Rattle.grammar.specs.Bytes.{Bytes}
 use Rattle.grammar.specs.Token.{symbol, quoted}
-use Rattle.grammar.specs.Operator.{Fixity, Prefix, Infix, Postfix, Roles, role}
+use Rattle.grammar.specs.Operator.{Fixity, Prefix, Infix, Postfix, role}
 use Rattle.grammar.specs.Operator as G
 use Rattle.grammar.specs.Climb.{firstRole}
 use Rattle.rows.specs.Codes.{roleCode, rolesOf, arrivalOf}

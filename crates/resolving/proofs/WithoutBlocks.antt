@@ -1,6 +1,6 @@
 -- A range without blocks: nothing is declared in it, so its check passes with every fuel that is enough, and a row that has the roles of each
 -- token agrees with it. By induction on how the range is paired.
-use mathlib.Core.Path.{_≡_, refl, _∙_}
+use mathlib.Core.Path.{_≡_, refl}
 use mathlib.Core.List.{List, _∷_}
 use Prim.Native.Nat.{ℕ, zero, suc, _+_, _-_, _≤_, _<_}
 use native.Mathlib.Omega.{arith}

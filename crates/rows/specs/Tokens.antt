@@ -2,13 +2,13 @@
 use mathlib.Core.Path.{_≡_}
 use mathlib.Core.Bool.{true, false}
 use mathlib.Core.List.{List, [], _∷_, map}
-use Prim.Native.Nat.{ℕ, zero, suc, _+_, _-_, _≤_, _<_}
+use Prim.Native.Nat.{ℕ, zero, suc, _-_, _≤_, _<_}
 use lib.Dec.{eqb}
 use lib.ListN.{length, take, drop, getD}
 use Rattle.grammar.specs.Bytes.{Bytes}
 use Rattle.grammar.specs.Fault.{mostTokens}
 use Rattle.grammar.specs.Token.{Token, Atom, atom, structure, symbol, number, quoted, opening, closing, semicolon, keywordLet, keywordIn, keywordEnd}
-use Rattle.grammar.specs.Token.{Structure, characters, spelling}
+use Rattle.grammar.specs.Token.{Structure, characters}
 use Rattle.grammar.specs.Outcome.{passed}
 use Rattle.grammar.specs.Scan.{Placed, scan}
 use Rattle.grammar.specs.Coded.{kindOf, tokenOf}

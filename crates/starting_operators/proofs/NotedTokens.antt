@@ -13,7 +13,6 @@ use Rattle.grammar.specs.Declaration.{startTable}
 use Rattle.grammar.proofs.Logic.{below}
 use Rattle.rows.specs.Fields.{kind, Within, withWords}
 use Rattle.rows.specs.Codes.{roleCode, arrivalOf}
-use Rattle.rows.specs.Tokens.{charactersOf}
 use Rattle.rows.specs.Agreeing.{rolesFor, arrivalFor, KeptOutside, NotedAt}
 use Rattle.rows.proofs.Fields.{within}
 use Rattle.rows.proofs.Noting.{kept-none, kept-join, noted-kept, WordsAt, words-stored, noted, number-noted, NotedAtom, number-item}

@@ -1,6 +1,6 @@
 -- The tests are those of `codedClass`, and a word or sign is what the search of its name finds. Assumes nothing.
 use mathlib.Core.Path.{_≡_, refl, sym, ap, ap₂, subst, _∙_}
-use Prim.Native.Nat.{ℕ, _+_, _-_, _≤_, _<_}
+use Prim.Native.Nat.{ℕ, _+_, _-_, _≤_}
 use native.Mathlib.Omega.{arith}
 use borrow.Author.Needs.{needs}
 use lib.ListN.{length, take, drop}
@@ -9,7 +9,7 @@ use Rattle.rows.specs.Fields.{kind, closer}
 use Rattle.rows.specs.Tokens.{charactersOf}
 use Rattle.rows.proofs.Fields.{within}
 use Rattle.rows.proofs.PairedCases.{paired-block}
-use Rattle.operators.specs.Entries.{codedFind, tableBy, IsName, Quickly}
+use Rattle.operators.specs.Entries.{codedFind, IsName, Quickly}
 use Rattle.operators.specs.declared.table.Found.{Found}
 use Rattle.operators.specs.declared.table.Found.the-variants.{Nothing}
 use Rattle.resolving.specs.Resolving.{codedClass}

@@ -1,6 +1,6 @@
 -- Without blocks every token has the roles that it starts with. With blocks, the table made is that of the starting operators, which meet
 -- the conditions.
-use mathlib.Core.Path.{_≡_, refl, ap, subst, _∙_}
+use mathlib.Core.Path.{refl, ap, subst, _∙_}
 use borrow.Author.Needs.{needs}
 use Rattle.grammar.specs.Operator.{lawfulTable}
 use Rattle.grammar.specs.Declaration.{startTable}

@@ -1,10 +1,7 @@
 -- The words are those of the entry, and the entry is one of the table's. Assumes nothing.
-use mathlib.Core.Path.{_≡_}
 use Prim.Native.Nat.{_<_}
 use native.Mathlib.Omega.{arith}
 use borrow.Author.Needs.{needs}
-use Rattle.rows.specs.Codes.{IsRole}
-use Rattle.operators.specs.Entries.{word}
 use Rattle.rows.proofs.Noting.{words-stored}
 use Rattle.resolving.proofs.Noting.{operator-noted}
 use Rattle.resolving.proofs.store_operator.Statement.{statement}

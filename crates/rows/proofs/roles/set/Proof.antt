@@ -1,5 +1,4 @@
 -- The four stores, one after the other. Assumes nothing.
-use mathlib.Core.Path.{_≡_}
 use borrow.Author.Needs.{needs}
 use Rattle.rows.proofs.roles.set.Statement.{statement}
 use Rattle.rows.proofs.roles.set.Tie as tie

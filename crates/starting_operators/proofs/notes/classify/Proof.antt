@@ -1,9 +1,9 @@
 -- The tests tell the kinds apart; a symbol is an operator if its characters have a number below 8.
-use mathlib.Core.Path.{_≡_, sym, ap, _∙_}
+use mathlib.Core.Path.{_≡_, ap, _∙_}
 use mathlib.Core.Logic.{inl, inr}
 use Prim.Native.Nat.{ℕ, _+_, _-_, _≤_}
 use native.Mathlib.Omega.{arith}
-use lib.ListN.{length, take, drop}
+use lib.ListN.{length}
 use borrow.Author.Needs.{needs}
 use Rattle.rows.specs.Fields.{kind, start, size}
 use Rattle.rows.specs.Tokens.{charactersOf}

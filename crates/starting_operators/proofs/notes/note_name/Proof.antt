@@ -1,5 +1,4 @@
 -- A quoted name has the roles of the operator with its number; any other has no role if it has no number.
-use mathlib.Core.Path.{_≡_}
 use borrow.Author.Needs.{needs}
 use Rattle.starting_operators.proofs.NotedTokens.{quoted-noted, unnumbered-noted}
 use Rattle.starting_operators.proofs.notes.note_name.Statement.{statement}
