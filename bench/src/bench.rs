@@ -1,5 +1,6 @@
 //! Time per call on fixed texts, best of several runs.
 
+use rule_bench::listing;
 use rule_bench::reader::{self, Answer, MAX_BYTES, MAX_TOKENS, NODE_WORDS};
 use std::fmt::Write;
 use std::hint::black_box;
@@ -103,6 +104,14 @@ impl<T> Timer<T> {
         (0..self.calls).for_each(|_| _ = black_box((self.call)(black_box(text), black_box(buffer))));
         self.best = self.best.min(start.elapsed().as_nanos() as f64 / f64::from(self.calls));
     }
+}
+
+/// Prints each text in hexadecimal, and its name.
+pub fn print_rows() -> Result<(), String> {
+    for Row { name, text, .. } in rows() {
+        println!("{} {name}", listing::to_hex(text.as_bytes()));
+    }
+    Ok(())
 }
 
 pub fn run() -> Result<(), String> {

@@ -1,4 +1,4 @@
-//! cases HEX LISTING | listings HEX | texts SEED N | compare SEED N | bench
+//! cases HEX LISTING | listings HEX | texts SEED N | compare SEED N | rows | bench
 
 #[cfg(feature = "archive")]
 mod archive;
@@ -19,8 +19,9 @@ fn main() -> ExitCode {
         ["texts", seed, n] => numbers(seed, n).and_then(|(seed, n)| print_texts(seed, n)),
         #[cfg(feature = "archive")]
         ["compare", seed, n] => numbers(seed, n).and_then(|(seed, n)| compare::run(seed, n)),
+        ["rows"] => bench::print_rows(),
         ["bench"] => bench::run(),
-        _ => Err("usage: cases HEX LISTING | listings HEX | texts SEED N | compare SEED N | bench".into()),
+        _ => Err("usage: cases HEX LISTING | listings HEX | texts SEED N | compare SEED N | rows | bench".into()),
     };
     match result {
         Ok(()) => ExitCode::SUCCESS,

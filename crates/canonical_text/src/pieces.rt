@@ -39,11 +39,11 @@ fn is_symbol(table: &[u8; 256], name: &[u8]) -> bool
     requires { ⌜ IsTable (now table) × IsName (now name) ⌝ }
     ensures { λ r. ⌜ r ≡ isSymbol (now (name .entry)) ⌝ }
 {
-    let c = table[name[0] as usize];
-    if c == classes::SIGN {
-        return runs::run_end(table, name, 0, classes::SIGN) == name.len();
+    let c = classes::class(table, name[0]);
+    if c == byte_classes::SIGN {
+        return runs::run_end(table, name, 0, byte_classes::SIGN) == name.len();
     }
-    if c == classes::LETTER {
+    if c == byte_classes::LETTER {
         if runs::word_end(table, name, 0) == name.len() {
             return fronts::word_kind(name) == kinds::SYMBOL;
         }

@@ -1,4 +1,3 @@
-pub mod Intervals
 pub mod Table
 pub mod TestedClasses
 pub mod TokenAtFront

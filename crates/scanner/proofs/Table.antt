@@ -1,22 +1,22 @@
--- The table of the classes of bytes: the constant of the code is by computation the list of the classes of the bytes from 0 on, and number `b`
--- of that list is the class of `b`.
-use mathlib.Core.Path.{_≡_, ap, _∙_}
-use mathlib.Core.List.{List, [], _∷_}
-use Prim.Native.Nat.{ℕ, zero, suc, _+_, _<_}
+-- The table of the classes of bytes: one test, which the checker computes, holds all 256 entries against the rule, and a law about tests
+-- of an interval gives the rule at each entry.
+use mathlib.Core.Path.{_≡_}
+use mathlib.Core.Bool.{Bool, true}
+use mathlib.Core.List.{List}
+use Prim.Native.Nat.{ℕ}
 use native.Mathlib.Omega.{arith}
+use lib.Dec.{eqb}
 use lib.ListN.{getD}
+use borrow.Author.Tests.{eqb-true}
 use Rattle.grammar.specs.Token.{class}
+use Rattle.byte_classes.proofs.Intervals.{all, all-at}
 use Rattle.scanner.specs.Classes.{IsTable}
 
--- The classes of `n` bytes from byte `b` on.
-abbrev pub classesFrom : ℕ → ℕ → List ℕ
-classesFrom b zero = []
-classesFrom b (suc n) = class b ∷ classesFrom (suc b) n
+-- Entry `b` is the class of the byte `b`.
+abbrev pub follows : List ℕ → ℕ → Bool
+follows C b = eqb (getD C b 0) (class b)
 
-class-at : (n b k : ℕ) → k < n → getD (classesFrom b n) k 0 ≡ class (b + k)
-class-at zero b k h = absurd (omega arith)
-class-at (suc n) b zero h = let e : b ≡ b + 0 = omega arith in ap class e
-class-at (suc n) b (suc k) h = let e : suc b + k ≡ b + suc k = omega arith in class-at n (suc b) k (omega arith) ∙ ap class e
-
-pub classes-table : IsTable (classesFrom 0 256)
-classes-table b h = let e : 0 + b ≡ b = omega arith in class-at 256 0 b h ∙ ap class e
+pub whole-table : (C : List ℕ) → all (follows C) 0 256 ≡ true → IsTable C
+whole-table C t = record {
+  entry = λ b h. eqb-true (getD C b 0) (class b) (all-at (follows C) 0 256 t b (omega arith) (omega arith));
+}

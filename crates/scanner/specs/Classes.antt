@@ -7,9 +7,9 @@ use lib.Dec.{eqb}
 use lib.ListN.{getD}
 use Rattle.grammar.specs.Token.{class}
 
--- Entry `b` is the class of the byte `b`.
-abbrev pub IsTable : List ℕ → Type 0
-IsTable C = (b : ℕ) → b < 256 → getD C b 0 ≡ class b
+-- 02, §12: "Let the scanner look up a byte's kind in a constant table of 256 entries". Every entry follows the rule.
+pub record IsTable (C : List ℕ) : Type 0 where
+  pub entry : (b : ℕ) → b < 256 → getD C b 0 ≡ class b
 
 unfoldable pub inClass : ℕ → ℕ → Bool
 inClass c b = eqb (class b) c

@@ -57,11 +57,11 @@ fn limited(kind: u16, size: usize, most: usize) -> Front
 }
 
 // The quoted name whose opening quote stands at `at`.
-fn quoted(text: &[u8], at: usize) -> Front
-    requires { ⌜ at < length (now text) ⌝ }
+fn quoted(table: &[u8; 256], text: &[u8], at: usize) -> Front
+    requires { ⌜ IsTable (now table) × (at < length (now text)) ⌝ }
     ensures { λ r. ⌜ Fronts (quotedName (drop (at + 1) (now (text .entry)))) r ⌝ }
 {
-    let e = runs::quoted_end(text, at + 1);
+    let e = runs::quoted_end(table, text, at + 1);
     let n = e - at - 1;
     if n < 1 {
         return Front::Refused {
@@ -74,7 +74,7 @@ fn quoted(text: &[u8], at: usize) -> Front
         };
     }
     if e < text.len() {
-        if text[e] == b'\'' {
+        if classes::class(table, text[e]) == byte_classes::QUOTE {
             return Front::Token {
                 kind: kinds::QUOTED,
                 size: n + 2,
@@ -98,25 +98,25 @@ pub fn front_at(table: &[u8; 256], text: &[u8], at: usize) -> Front
     requires { ⌜ IsTable (now table) × (at < length (now text)) ⌝ }
     ensures { λ r. ⌜ Fronts (front (drop at (now (text .entry)))) r ⌝ }
 {
-    match classes::class(text[at]) {
-        classes::LETTER => {
+    match classes::class(table, text[at]) {
+        byte_classes::LETTER => {
             let e = runs::word_end(table, text, at + 1);
             limited(word_kind(&text[at..e]), e - at, MAX_NAME)
         }
-        classes::DIGIT => limited(
+        byte_classes::DIGIT => limited(
             kinds::NUMBER,
-            runs::run_end(table, text, at + 1, classes::DIGIT) - at,
+            runs::run_end(table, text, at + 1, byte_classes::DIGIT) - at,
             MAX_DIGITS,
         ),
-        classes::SIGN => limited(
+        byte_classes::SIGN => limited(
             kinds::SYMBOL,
-            runs::run_end(table, text, at + 1, classes::SIGN) - at,
+            runs::run_end(table, text, at + 1, byte_classes::SIGN) - at,
             MAX_NAME,
         ),
-        classes::QUOTE => quoted(text, at),
-        classes::OPENING => solo(kinds::OPENING),
-        classes::CLOSING => solo(kinds::CLOSING),
-        classes::SEMICOLON => solo(kinds::SEMICOLON),
+        byte_classes::QUOTE => quoted(table, text, at),
+        byte_classes::OPENING => solo(kinds::OPENING),
+        byte_classes::CLOSING => solo(kinds::CLOSING),
+        byte_classes::SEMICOLON => solo(kinds::SEMICOLON),
         _ => Front::Refused { number: NO_TOKEN },
     }
 }

@@ -14,7 +14,7 @@ pub fn run_end(table: &[u8; 256], text: &[u8], at: usize, class: u8) -> usize
 {
     let mut i = at;
     while i < text.len() {
-        if table[text[i] as usize] != class {
+        if classes::class(table, text[i]) != class {
             return i;
         }
         i += 1;
@@ -29,11 +29,11 @@ pub fn word_end(table: &[u8; 256], text: &[u8], at: usize) -> usize
 {
     let mut i = at;
     while i < text.len() {
-        let c = table[text[i] as usize];
-        if c < classes::LETTER {
+        let c = classes::class(table, text[i]);
+        if c < byte_classes::LETTER {
             return i;
         }
-        if classes::UNDERSCORE < c {
+        if byte_classes::UNDERSCORE < c {
             return i;
         }
         i += 1;
@@ -41,8 +41,9 @@ pub fn word_end(table: &[u8; 256], text: &[u8], at: usize) -> usize
     i
 }
 
-// Where the bytes from `at` on that can stand in quotes end.
-pub fn quoted_end(text: &[u8], at: usize) -> usize
+// Where the bytes from `at` on that can stand in quotes end: those from 32 to 126, of every class but the quote's.
+pub fn quoted_end(table: &[u8; 256], text: &[u8], at: usize) -> usize
+    requires { ⌜ IsTable (now table) ⌝ }
     ensures { λ r. ⌜ r ≡ at + run inQuotes (drop at (now (text .entry))) ⌝ }
 {
     let mut i = at;
@@ -54,7 +55,7 @@ pub fn quoted_end(text: &[u8], at: usize) -> usize
         if 126 < b {
             return i;
         }
-        if b == b'\'' {
+        if classes::class(table, b) == byte_classes::QUOTE {
             return i;
         }
         i += 1;

@@ -54,7 +54,7 @@ pub fn scan(table: &[u8; 256], text: &[u8], tokens: &mut [u16]) -> Scanned
     let mut at: usize = 0;
     let mut nested = false;
     while at < text.len() {
-        if table[text[at] as usize] == classes::BLANK {
+        if classes::class(table, text[at]) == byte_classes::BLANK {
             at += 1;
         } else {
             match fronts::front_at(table, text, at) {

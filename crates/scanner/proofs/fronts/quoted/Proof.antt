@@ -9,6 +9,7 @@ use Rattle.grammar.specs.Bytes.{Bytes}
 use Rattle.grammar.specs.Token.{inQuotes}
 use Rattle.grammar.specs.Scan.{run}
 use Rattle.grammar.specs.Coded.{kindOf}
+use Rattle.scanner.proofs.TestedClasses.{a-quote, no-quote}
 use Rattle.scanner.proofs.TokenAtFront.{quoted-empty, quoted-long, quoted-taken, quoted-open}
 use Rattle.scanner.proofs.fronts.quoted.Statement.{statement}
 use Rattle.scanner.proofs.fronts.quoted.Tie as tie
@@ -57,26 +58,32 @@ returns-2 c =
     let d = c .before .before in
     rw (quoted-long (drop (place d + 1) (s d)) _ (many d) (c .before .if1 .left) (c .if2 .taken)) refl
 
-shared-slice-read-if4 : tie.Need-shared-slice-read-if4
-shared-slice-read-if4 c = search needs
+shared-slice-read-class : tie.Need-shared-slice-read-class
+shared-slice-read-class c = search needs
 
-add-t10 : tie.Need-add-t10
-add-t10 c = search needs
+class-requires : tie.Need-class-requires
+class-requires c κs = search needs
+
+add-t12 : tie.Need-add-t12
+add-t12 c = search needs
 
 returns-3 : tie.Need-returns-3
 unfolding kindOf
 returns-3 c =
-    let e = c .before .before .before in
+    let k = c .before in
+    let e = k .before .before .before in
     let d = e .before .before in
-    let q = behind (s d) (place d) (stop d) (d .quoted-end .ensures) ∙ c .if4 .taken in
+    let q = behind (s d) (place d) (stop d) (d .quoted-end .ensures) ∙ a-quote _ (k .class .ensures) (c .if4 .taken) in
     rw (quoted-taken (drop (place d + 1) (s d)) _ (many d) (e .before .if1 .left) (e .if2 .left) q) refl
 
 returns-4 : tie.Need-returns-4
 returns-4 c =
-    let e = c .before .before .before in
+    let k = c .before in
+    let e = k .before .before .before in
     let d = e .before .before in
     let b = behind (s d) (place d) (stop d) (d .quoted-end .ensures) in
-    rw (quoted-open (drop (place d + 1) (s d)) _ (many d) (e .before .if1 .left) (e .if2 .left) (λ q. c .if4 .left (sym b ∙ q))) refl
+    let n = no-quote _ (k .class .ensures) (c .if4 .left) in
+    rw (quoted-open (drop (place d + 1) (s d)) _ (many d) (e .before .if1 .left) (e .if2 .left) (λ q. n (sym b ∙ q))) refl
 
 returns-5 : tie.Need-returns-5
 returns-5 c =
@@ -96,8 +103,9 @@ quoted-spec =
     sub-n-2
     returns
     returns-2
-    shared-slice-read-if4
-    add-t10
+    shared-slice-read-class
+    class-requires
+    add-t12
     returns-3
     returns-4
     returns-5)

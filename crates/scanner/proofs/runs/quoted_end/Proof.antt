@@ -7,15 +7,15 @@ use lib.ListN.{length, drop}
 use Rattle.grammar.specs.Token.{inQuotes}
 use Rattle.grammar.specs.Scan.{run}
 use Rattle.byte_strings.proofs.Suffixes.{run-step, run-stop, run-end}
-use Rattle.scanner.proofs.TestedClasses.{in-quotes, below-quotes, above-quotes, quote-ends}
+use Rattle.scanner.proofs.TestedClasses.{in-quotes, below-quotes, above-quotes, quote-ends, a-quote, no-quote}
 use Rattle.scanner.proofs.runs.quoted_end.Statement.{statement}
 use Rattle.scanner.proofs.runs.quoted_end.Tie as tie
 
 abbrev Inv-loop : tie.InvT-loop
-Inv-loop text at i₀ i = at + run inQuotes (drop at text) ≡ i + run inQuotes (drop i text)
+Inv-loop table text at i₀ i = at + run inQuotes (drop at text) ≡ i + run inQuotes (drop i text)
 
 abbrev μ-loop : tie.MeasureT-loop
-μ-loop text at i₀ i = length text - i
+μ-loop table text at i₀ i = length text - i
 
 loop-holds : tie.Need-loop-holds Inv-loop μ-loop
 loop-holds c = omega arith
@@ -27,19 +27,22 @@ returns : tie.Need-returns Inv-loop μ-loop
 returns c =
     let l = c .before .before .before in
     let e = below-quotes _ (c .if1 .taken) in
-    omega (arith, run-stop inQuotes (l .before .args .text .now) (l .loop .i) (omega arith) e)
+    omega (arith, run-stop inQuotes (l .before .before .args .text .now) (l .loop .i) (omega arith) e)
 
 returns-2 : tie.Need-returns-2 Inv-loop μ-loop
 returns-2 c =
     let l = c .before .before .before .before in
     let e = above-quotes _ (c .if2 .taken) in
-    omega (arith, run-stop inQuotes (l .before .args .text .now) (l .loop .i) (omega arith) e)
+    omega (arith, run-stop inQuotes (l .before .before .args .text .now) (l .loop .i) (omega arith) e)
+
+class-requires : tie.Need-class-requires Inv-loop μ-loop
+class-requires c κs = search needs
 
 returns-3 : tie.Need-returns-3 Inv-loop μ-loop
 returns-3 c =
-    let l = c .before .before .before .before .before in
-    let e = quote-ends _ (c .if3 .taken) in
-    omega (arith, run-stop inQuotes (l .before .args .text .now) (l .loop .i) (omega arith) e)
+    let l = c .before .before .before .before .before .before in
+    let e = quote-ends _ (a-quote _ (c .before .class .ensures) (c .if3 .taken)) in
+    omega (arith, run-stop inQuotes (l .before .before .args .text .now) (l .loop .i) (omega arith) e)
 
 add-i : tie.Need-add-i Inv-loop μ-loop
 add-i c = search needs
@@ -49,12 +52,13 @@ loop-less c = search needs
 
 loop-again : tie.Need-loop-again Inv-loop μ-loop
 loop-again c =
-    let l = c .before .before .before .before .before in
-    let e = in-quotes _ (c .before .before .if1 .left) (c .before .if2 .left) (c .if3 .left) in
-    omega (arith, run-step inQuotes (l .before .args .text .now) (l .loop .i) (omega arith) e)
+    let k = c .before in
+    let l = k .before .before .before .before .before in
+    let e = in-quotes _ (k .before .before .if1 .left) (k .before .if2 .left) (no-quote _ (k .class .ensures) (c .if3 .left)) in
+    omega (arith, run-step inQuotes (l .before .before .args .text .now) (l .loop .i) (omega arith) e)
 
 returns-4 : tie.Need-returns-4 Inv-loop μ-loop
-returns-4 c = let l = c .before in omega (arith, run-end inQuotes (l .before .args .text .now) (l .loop .i) (omega arith))
+returns-4 c = let l = c .before in omega (arith, run-end inQuotes (l .before .before .args .text .now) (l .loop .i) (omega arith))
 
 pub quoted-end-spec : {M : Type 1} → statement M
 quoted-end-spec =
@@ -66,6 +70,7 @@ quoted-end-spec =
     shared-slice-read-b
     returns
     returns-2
+    class-requires
     returns-3
     add-i
     loop-less

@@ -20,22 +20,18 @@ abbrev μ-loop : tie.MeasureT-loop
 loop-holds : tie.Need-loop-holds Inv-loop μ-loop
 loop-holds c = omega arith
 
-shared-slice-read-if1 : tie.Need-shared-slice-read-if1 Inv-loop μ-loop
-shared-slice-read-if1 c = search needs
+shared-slice-read-class : tie.Need-shared-slice-read-class Inv-loop μ-loop
+shared-slice-read-class c = search needs
 
-cast-if1 : tie.Need-cast-if1 Inv-loop μ-loop
-cast-if1 c = omega (arith, c .shared-slice-known .given (c .before .before .loop .i))
-
-element-copy-out-if1 : tie.Need-element-copy-out-if1 Inv-loop μ-loop
-element-copy-out-if1 c = omega (arith, c .shared-slice-known .given (c .before .before .loop .i))
+class-requires : tie.Need-class-requires Inv-loop μ-loop
+class-requires c κs = search needs
 
 returns : tie.Need-returns Inv-loop μ-loop
 returns c =
-    let k = c .before .before in
-    let l = k .before .before in
-    let a = l .before .args in
-    let b = k .shared-slice-known .given (l .loop .i) .fits in
-    let e = not-in-class (a .table .now) (l .before .pre) _ b (c .if1 .taken) in
+    let k = c .before in
+    let l = k .before .before .before in
+    let a = l .before .before .args in
+    let e = not-in-class _ (k .class .ensures) (c .if1 .taken) in
     omega (arith, run-stop (inClass (a .class)) (a .text .now) (l .loop .i) (omega arith) e)
 
 add-i : tie.Need-add-i Inv-loop μ-loop
@@ -46,17 +42,16 @@ loop-less c = search needs
 
 loop-again : tie.Need-loop-again Inv-loop μ-loop
 loop-again c =
-    let k = c .before .before in
-    let l = k .before .before in
-    let a = l .before .args in
-    let b = k .shared-slice-known .given (l .loop .i) .fits in
-    let e = in-class (a .table .now) (l .before .pre) _ b (c .if1 .left) in
+    let k = c .before in
+    let l = k .before .before .before in
+    let a = l .before .before .args in
+    let e = in-class _ (k .class .ensures) (c .if1 .left) in
     omega (arith, run-step (inClass (a .class)) (a .text .now) (l .loop .i) (omega arith) e)
 
 returns-2 : tie.Need-returns-2 Inv-loop μ-loop
 returns-2 c =
     let l = c .before in
-    let a = l .before .args in
+    let a = l .before .before .args in
     omega (arith, run-end (inClass (a .class)) (a .text .now) (l .loop .i) (omega arith))
 
 pub run-end-spec : {M : Type 1} → statement M
@@ -66,9 +61,8 @@ run-end-spec =
     Inv-loop
     μ-loop
     loop-holds
-    shared-slice-read-if1
-    cast-if1
-    element-copy-out-if1
+    shared-slice-read-class
+    class-requires
     returns
     add-i
     loop-less

@@ -20,31 +20,26 @@ abbrev μ-loop : tie.MeasureT-loop
 loop-holds : tie.Need-loop-holds Inv-loop μ-loop
 loop-holds c = omega arith
 
-shared-slice-read-c : tie.Need-shared-slice-read-c Inv-loop μ-loop
-shared-slice-read-c c = search needs
+shared-slice-read-class : tie.Need-shared-slice-read-class Inv-loop μ-loop
+shared-slice-read-class c = search needs
 
-cast-c : tie.Need-cast-c Inv-loop μ-loop
-cast-c c = omega (arith, c .shared-slice-known .given (c .before .before .loop .i))
-
-element-copy-out-c : tie.Need-element-copy-out-c Inv-loop μ-loop
-element-copy-out-c c = omega (arith, c .shared-slice-known .given (c .before .before .loop .i))
+class-requires : tie.Need-class-requires Inv-loop μ-loop
+class-requires c κs = search needs
 
 returns : tie.Need-returns Inv-loop μ-loop
 returns c =
-    let k = c .before .before in
-    let l = k .before .before in
-    let a = l .before .args in
-    let b = k .shared-slice-known .given (l .loop .i) .fits in
-    let e = before-word (a .table .now) (l .before .pre) _ b (c .if1 .taken) in
+    let k = c .before in
+    let l = k .before .before .before in
+    let a = l .before .before .args in
+    let e = before-word _ (k .class .ensures) (c .if1 .taken) in
     omega (arith, run-stop inWord (a .text .now) (l .loop .i) (omega arith) e)
 
 returns-2 : tie.Need-returns-2 Inv-loop μ-loop
 returns-2 c =
-    let k = c .before .before .before in
-    let l = k .before .before in
-    let a = l .before .args in
-    let b = k .shared-slice-known .given (l .loop .i) .fits in
-    let e = behind-word (a .table .now) (l .before .pre) _ b (c .if2 .taken) in
+    let k = c .before .before in
+    let l = k .before .before .before in
+    let a = l .before .before .args in
+    let e = behind-word _ (k .class .ensures) (c .if2 .taken) in
     omega (arith, run-stop inWord (a .text .now) (l .loop .i) (omega arith) e)
 
 add-i : tie.Need-add-i Inv-loop μ-loop
@@ -55,15 +50,14 @@ loop-less c = search needs
 
 loop-again : tie.Need-loop-again Inv-loop μ-loop
 loop-again c =
-    let k = c .before .before .before in
-    let l = k .before .before in
-    let a = l .before .args in
-    let b = k .shared-slice-known .given (l .loop .i) .fits in
-    let e = in-word (a .table .now) (l .before .pre) _ b (c .before .if1 .left) (c .if2 .left) in
+    let k = c .before .before in
+    let l = k .before .before .before in
+    let a = l .before .before .args in
+    let e = in-word _ (k .class .ensures) (c .before .if1 .left) (c .if2 .left) in
     omega (arith, run-step inWord (a .text .now) (l .loop .i) (omega arith) e)
 
 returns-3 : tie.Need-returns-3 Inv-loop μ-loop
-returns-3 c = let l = c .before in omega (arith, run-end inWord (l .before .args .text .now) (l .loop .i) (omega arith))
+returns-3 c = let l = c .before in omega (arith, run-end inWord (l .before .before .args .text .now) (l .loop .i) (omega arith))
 
 pub word-end-spec : {M : Type 1} → statement M
 word-end-spec =
@@ -72,9 +66,8 @@ word-end-spec =
     Inv-loop
     μ-loop
     loop-holds
-    shared-slice-read-c
-    cast-c
-    element-copy-out-c
+    shared-slice-read-class
+    class-requires
     returns
     returns-2
     add-i

@@ -23,14 +23,11 @@ abbrev μ-loop : tie.MeasureT-loop
 loop-holds : tie.Need-loop-holds Inv-loop μ-loop
 loop-holds c = (begun _ _, refl)
 
-shared-slice-read-if1 : tie.Need-shared-slice-read-if1 Inv-loop μ-loop
-shared-slice-read-if1 c = search needs
+shared-slice-read-class : tie.Need-shared-slice-read-class Inv-loop μ-loop
+shared-slice-read-class c = search needs
 
-cast-if1 : tie.Need-cast-if1 Inv-loop μ-loop
-cast-if1 c = omega (arith, c .shared-slice-known2 .given (c .before .before .loop .at))
-
-element-copy-out-if1 : tie.Need-element-copy-out-if1 Inv-loop μ-loop
-element-copy-out-if1 c = omega (arith, c .shared-slice-known2 .given (c .before .before .loop .at))
+class-requires : tie.Need-class-requires Inv-loop μ-loop
+class-requires c κs = search needs
 
 add-at : tie.Need-add-at Inv-loop μ-loop
 add-at c = search needs
@@ -40,11 +37,10 @@ loop-less c = search needs
 
 loop-again : tie.Need-loop-again Inv-loop μ-loop
 loop-again c =
-    let k = c .before .before in
-    let l = k .before .before in
-    let s = l .before .before .before in
-    let b = k .shared-slice-known2 .given (l .loop .at) .fits in
-    (at-blank (l .loop .inv .0) (k .before .loop-test .taken) (a-blank (s .args .table .now) (s .pre .0) _ b (c .if1 .taken)), l .loop .inv .1)
+    let k = c .before in
+    let t = k .before .before in
+    let l = t .before in
+    (at-blank (l .loop .inv .0) (t .loop-test .taken) (a-blank _ (k .class .ensures) (c .if1 .taken)), l .loop .inv .1)
 
 -- The turn that asks what stands there: the byte is within the text, and no blank.
 module _ (c : tie.After-front-at Inv-loop μ-loop) where
@@ -64,9 +60,7 @@ module _ (c : tie.After-front-at Inv-loop μ-loop) where
   inside = c .before .before .before .before .loop-test .taken
 
   bare : isBlankByte (getD text place 0) ≡ false
-  bare =
-      let b = c .before .before .before .shared-slice-known2 .given place .fits in
-      no-blank (entry .args .table .now) (entry .pre .0) _ b (c .before .if1 .left)
+  bare = no-blank _ (c .before .before .class .ensures) (c .before .if1 .left)
 
 front-at-requires : tie.Need-front-at-requires Inv-loop μ-loop
 front-at-requires c κs = search needs
@@ -158,9 +152,8 @@ scan-spec =
     Inv-loop
     μ-loop
     loop-holds
-    shared-slice-read-if1
-    cast-if1
-    element-copy-out-if1
+    shared-slice-read-class
+    class-requires
     add-at
     loop-less
     loop-again

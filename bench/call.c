@@ -1,4 +1,4 @@
-/* Calls one service once on standard input: `read` or `canonicalize`. For bench/linear, which counts the instructions of the call. */
+/* Calls one service once on standard input: `read` or `canonicalize`. For bench/callgrind, which counts the instructions of the call. */
 #include "../c/rule_reader.h"
 
 #include <stdio.h>

@@ -17,7 +17,7 @@ abbrev pub all : (ℕ → Bool) → ℕ → ℕ → Bool
 all f low zero = true
 all f low (suc w) = f low && all f (suc low) w
 
-all-at : (f : ℕ → Bool) (low w : ℕ) → all f low w ≡ true → (b : ℕ) → low ≤ b → b < low + w → f b ≡ true
+pub all-at : (f : ℕ → Bool) (low w : ℕ) → all f low w ≡ true → (b : ℕ) → low ≤ b → b < low + w → f b ≡ true
 all-at f low zero t b h g = absurd (omega arith)
 all-at f low (suc w) t b h g = go (all-at f (suc low) w (and-right (f low) (all f (suc low) w) t) b) (eqb low b) refl
   where
