@@ -12,7 +12,7 @@ use Rattle.grammar.proofs.Taken.{solo}
 use Rattle.scanner.specs.Classes.{inClass}
 
 -- The classes 1 to 3 are those of words.
-word-class : (c : ℕ) → 1 ≤ c → c ≤ 3 → eqb c 1 || eqb c 2 || eqb c 3 ≡ true
+word-class : (c : ℕ) → 1 ≤ c → c < 4 → eqb c 1 || eqb c 2 || eqb c 3 ≡ true
 word-class zero l m = absurd (omega arith)
 word-class (suc zero) l m = refl
 word-class (suc (suc zero)) l m = refl
@@ -36,7 +36,7 @@ module _ (b : ℕ) {c : ℕ} (e : c ≡ class b) where
   unfolding isBlankByte
   no-blank f = ne-eqb (class b) 0 (λ i. f (e ∙ i))
 
-  pub in-word : 1 ≤ c → c ≤ 3 → inWord b ≡ true
+  pub in-word : 1 ≤ c → c < 4 → inWord b ≡ true
   unfolding inWord
   in-word l m = word-class (class b) (omega (arith, e)) (omega (arith, e))
 
@@ -47,7 +47,7 @@ module _ (b : ℕ) {c : ℕ} (e : c ≡ class b) where
   pub before-word : c < 1 → inWord b ≡ false
   before-word l = not-in-word (λ i. omega (arith, e)) (λ i. omega (arith, e)) (λ i. omega (arith, e))
 
-  pub behind-word : 3 < c → inWord b ≡ false
+  pub behind-word : 4 ≤ c → inWord b ≡ false
   behind-word l = not-in-word (λ i. omega (arith, e)) (λ i. omega (arith, e)) (λ i. omega (arith, e))
 
   -- One byte has the class of the quote.

@@ -29,14 +29,14 @@ pub fn word_end(table: &[u8; 256], text: &[u8], at: usize) -> usize
 {
     let mut i = at;
     while i < text.len() {
-        let c = classes::class(table, text[i]);
-        if c < byte_classes::LETTER {
-            return i;
+        match classes::class(table, text[i]) {
+            byte_classes::LETTER | byte_classes::DIGIT | byte_classes::UNDERSCORE => {
+                i += 1;
+            }
+            _ => {
+                return i;
+            }
         }
-        if byte_classes::UNDERSCORE < c {
-            return i;
-        }
-        i += 1;
     }
     i
 }

@@ -26,6 +26,20 @@ shared-slice-read-class c = search needs
 class-requires : tie.Need-class-requires Inv-loop μ-loop
 class-requires c κs = search needs
 
+add-i : tie.Need-add-i Inv-loop μ-loop
+add-i c = search needs
+
+loop-less : tie.Need-loop-less Inv-loop μ-loop
+loop-less c = search needs
+
+loop-again : tie.Need-loop-again Inv-loop μ-loop
+loop-again c =
+    let k = c .before .before in
+    let l = k .before .before .before in
+    let a = l .before .before .args in
+    let e = in-word _ (k .class .ensures) (c .before .if1 .left) (c .if2 .taken) in
+    omega (arith, run-step inWord (a .text .now) (l .loop .i) (omega arith) e)
+
 returns : tie.Need-returns Inv-loop μ-loop
 returns c =
     let k = c .before in
@@ -39,22 +53,8 @@ returns-2 c =
     let k = c .before .before in
     let l = k .before .before .before in
     let a = l .before .before .args in
-    let e = behind-word _ (k .class .ensures) (c .if2 .taken) in
+    let e = behind-word _ (k .class .ensures) (c .if2 .left) in
     omega (arith, run-stop inWord (a .text .now) (l .loop .i) (omega arith) e)
-
-add-i : tie.Need-add-i Inv-loop μ-loop
-add-i c = search needs
-
-loop-less : tie.Need-loop-less Inv-loop μ-loop
-loop-less c = search needs
-
-loop-again : tie.Need-loop-again Inv-loop μ-loop
-loop-again c =
-    let k = c .before .before in
-    let l = k .before .before .before in
-    let a = l .before .before .args in
-    let e = in-word _ (k .class .ensures) (c .before .if1 .left) (c .if2 .left) in
-    omega (arith, run-step inWord (a .text .now) (l .loop .i) (omega arith) e)
 
 returns-3 : tie.Need-returns-3 Inv-loop μ-loop
 returns-3 c = let l = c .before in omega (arith, run-end inWord (l .before .before .args .text .now) (l .loop .i) (omega arith))
@@ -68,9 +68,9 @@ word-end-spec =
     loop-holds
     shared-slice-read-class
     class-requires
-    returns
-    returns-2
     add-i
     loop-less
     loop-again
+    returns
+    returns-2
     returns-3)
