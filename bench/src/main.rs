@@ -21,7 +21,10 @@ fn main() -> ExitCode {
         ["compare", seed, n] => numbers(seed, n).and_then(|(seed, n)| compare::run(seed, n)),
         ["rows"] => bench::print_rows(),
         ["bench"] => bench::run(),
-        _ => Err("usage: cases HEX LISTING | listings HEX | texts SEED N | compare SEED N | rows | bench".into()),
+        _ => {
+            Err("usage: cases HEX LISTING | listings HEX | texts SEED N | compare SEED N | rows | bench"
+                .into())
+        }
     };
     match result {
         Ok(()) => ExitCode::SUCCESS,
