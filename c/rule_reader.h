@@ -20,6 +20,9 @@
  *
  * Stack. At most 192 KB for rule_read and 96 KB for rule_canonicalize. Measured on 2026-11-16, not proved, the most found: 171,496
  * bytes for `not` 1,023 times and then a name, and 94,608 bytes for 32 nested blocks. c/stack.c measures it.
+ *
+ * Division. Neither call divides or takes a remainder, so a processor without an instruction for it needs no routine. c/divisions
+ * looks at every function that they call, before it is compiled, and at this archive.
  */
 #ifndef RULE_READER_H
 #define RULE_READER_H

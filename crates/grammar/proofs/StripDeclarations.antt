@@ -1,18 +1,21 @@
 -- Declarations without the zeros of their digits mean the same: they change the operators in force as before and pass checks 8 to 10
 -- as before, since both look at the value of the digits alone. Declarations that mean the same are the same without these zeros.
-use mathlib.Core.Path.{_≡_, refl, ap, ap₂}
+use mathlib.Core.Path.{_≡_, refl, ap}
+use mathlib.Core.Logic.{_↔_}
 use mathlib.Core.Bool.{true}
 use mathlib.Core.List.{List, [], _∷_, map, tail-eq-of-cons-eq}
 use Prim.Native.Nat.{ℕ}
 use native.Mathlib.Omega.{arith}
 use lib.ListN.{length}
+use Rattle.grammar.specs.Bytes.{Bytes}
 use Rattle.grammar.specs.Token.{isNumber}
-use Rattle.grammar.specs.Operator.{Table}
+use Rattle.grammar.specs.Operator.{Fixity, Associativity, Table}
 use Rattle.grammar.specs.Outcome.{passed}
 use Rattle.grammar.specs.Declaration.{
   Declaration,
   declares,
   clears,
+  value,
   declare,
   declareAll,
   allTokens,
@@ -22,19 +25,19 @@ use Rattle.grammar.specs.Declaration.{
   enter,
 }
 use Rattle.grammar.specs.Canonical.{stripDeclaration}
-use Rattle.grammar.specs.Abstract.{gives, takes, change}
-use Rattle.grammar.proofs.Numbers.{value-strip, strip-equal}
+use Rattle.grammar.specs.Abstract.{takes, change}
+use Rattle.grammar.proofs.Numbers.{value-strip, strip-equal, same-digits}
 use Rattle.grammar.proofs.Declarations.{declare-map, allow-map, enter-map}
 
 -- A declaration without the zeros of its digits: allowed as before, and it changes what is in force as before.
 strip-allows : (d : Declaration) → isDeclaration (stripDeclaration d) ≡ isDeclaration d
 unfolding isDeclaration stripDeclaration isPrecedence
-strip-allows (declares f a c m) = rw (value-strip c) refl
+strip-allows (declares f a c m) = cc (value-strip c)
 strip-allows (clears m) = refl
 
 strip-changes : (T : Table) (d : Declaration) → declare T (stripDeclaration d) ≡ declare T d
 unfolding declare stripDeclaration
-strip-changes T (declares f a c m) = rw (value-strip c) refl
+strip-changes T (declares f a c m) = cc (value-strip c)
 strip-changes T (clears m) = refl
 
 pub declare-strip : (T : Table) (ds : List Declaration) → declareAll T (map stripDeclaration ds) ≡ declareAll T ds
@@ -57,7 +60,7 @@ enter-strip T i j ds U a e =
 pub change-strip : (ds : List Declaration) → map change (map stripDeclaration ds) ≡ map change ds
 unfolding change stripDeclaration
 change-strip [] = refl
-change-strip (declares f a c m ∷ ds) = ap₂ _∷_ (ap (λ v. gives f a v m) (value-strip c)) (change-strip ds)
+change-strip (declares f a c m ∷ ds) = cc (value-strip c, change-strip ds)
 change-strip (clears m ∷ ds) = ap (_∷_ (takes m)) (change-strip ds)
 
 -- The precedences of declarations are written in digits.
@@ -79,3 +82,12 @@ strip-by-change (declares f a c m ∷ ds) (declares g b d n ∷ es) p q h =
 strip-by-change (declares f a c m ∷ ds) (clears n ∷ es) p q h = cc
 strip-by-change (clears m ∷ ds) (declares g b d n ∷ es) p q h = cc
 strip-by-change (clears m ∷ ds) (clears n ∷ es) p q h = cc (strip-by-change ds es p q (tail-eq-of-cons-eq h))
+
+-- Two declarations that differ at most in the digits of their precedence are the same without the zeros of these exactly where the
+-- precedences are equal.
+pub same-precedences :
+    (f : Fixity) (a : Associativity) (m d e : Bytes) → isNumber d ≡ true → isNumber e ≡ true
+    → (value d ≡ value e) ↔ (stripDeclaration (declares f a d m) ≡ stripDeclaration (declares f a e m))
+unfolding stripDeclaration
+same-precedences f a m d e p q =
+    (λ h. ap (λ x. declares f a x m) (same-digits d e p q .0 h), λ h. same-digits d e p q .1 (cc h))

@@ -11,16 +11,17 @@ use Prim.Native.Nat.{ℕ, _≤_}
 use lib.ListN.{length, take}
 use Rattle.grammar.specs.Bytes.{Bytes}
 use Rattle.grammar.specs.Token.{Token, isNumber}
-use Rattle.grammar.specs.Operator.{Table, Conditions}
-use Rattle.grammar.specs.Declaration.{startTable, value}
+use Rattle.grammar.specs.Operator.{Fixity, Associativity, Table, Conditions}
+use Rattle.grammar.specs.Declaration.{declares, startTable, value}
 use Rattle.grammar.specs.SpanTree.{SpanTree, Admitted, root, rootPrecedence, yield}
 use Rattle.grammar.specs.Tree.{Tree, IsTree}
 use Rattle.grammar.specs.Widest.{widest}
 use Rattle.grammar.specs.Abstract.{Agree}
-use Rattle.grammar.specs.Canonical.{strip}
+use Rattle.grammar.specs.Canonical.{strip, stripDeclaration}
 use Rattle.grammar.specs.Fault.{longestText, Fault, Past}
 use Rattle.grammar.specs.Claim.{BlocksLawful, FirstWithout, TreeOf, canonicalTree, canonicalBytes, Faithful}
 use Rattle.grammar.proofs.Numbers as Numbers
+use Rattle.grammar.proofs.StripDeclarations as StripDeclarations
 use Rattle.grammar.proofs.WidestRoot.{root-widest}
 use Rattle.grammar.proofs.Faults as Faults
 use Rattle.grammar.proofs.Rules as Rules
@@ -87,9 +88,15 @@ pub same-bytes :
     → a .number ≡ 0 → b .number ≡ 0 → (t u : Tree) → TreeOf text t → TreeOf other u → (take (a .count) B′ ≡ take (b .count) C′) ↔ Agree t u
 same-bytes = CanonicalCalls.same-bytes
 
--- Two numbers lose their zeros to the same digits exactly where their values are equal.
+-- Document 02, §3: "two numbers are copied alike exactly when their values are equal", ..
 pub same-digits : (d e : Bytes) → isNumber d ≡ true → isNumber e ≡ true → (value d ≡ value e) ↔ (strip d ≡ strip e)
 same-digits = Numbers.same-digits
+
+-- .. "levels included": two declarations that differ at most in the digits of their precedence.
+pub same-precedences :
+    (f : Fixity) (a : Associativity) (m d e : Bytes) → isNumber d ≡ true → isNumber e ≡ true
+    → (value d ≡ value e) ↔ (stripDeclaration (declares f a d m) ≡ stripDeclaration (declares f a e m))
+same-precedences = StripDeclarations.same-precedences
 
 -- That the root has the widest precedence follows and is not asked besides.
 pub widest-root : (T : Table) → Conditions T → (s : SpanTree) → Admitted T s → rootPrecedence (root T s) ≡ widest T (yield s)
