@@ -46,7 +46,8 @@ unfolding Answer.tokensOf Answer.startsOf Answer.offsetOf Answer.spanOffset Answ
     Declaration.declarationTokens Declaration.allTokens Declaration.isPrecedence Declaration.symbolOf Declaration.precedenceOf
     Declaration.isSemicolon Declaration.fixityNamed Declaration.associativityNamed Declaration.closed Declaration.operatorPart
     Declaration.precedencePart Declaration.associativityFor Declaration.associativityPart Declaration.firstWord
-    Declaration.declaration Declaration.operatorPlace Declaration.checkedAt Declaration.hasRoom Declaration.enter
+    Declaration.declaration Declaration.operatorPlace Declaration.operatorOf Declaration.isReserved Declaration.checkedAt
+    Declaration.hasRoom Declaration.enter
     Declaration.declarationsOf Declaration.declarations Listing.decimalIn Listing.decimal Listing.kindNames Listing.field
     Listing.nodeLines Listing.refusalLine Listing.canonicalLines Listing.readingLines Listing.listingOf Listing.listing
     Nesting.outermost Nesting.within Nesting.move Nesting.closeInnermost Nesting.nesting Nodes.leafKind Nodes.charactersOffset

@@ -42,7 +42,7 @@ cases =
     ∷ record { text = bytes "0000042=(infix and'_x'))"; listing = bytes "refused 6 at 23\n" }
     ∷ record { text = (108 ∷ 101 ∷ 116 ∷ 32 ∷ 57 ∷ 32 ∷ 105 ∷ 110 ∷ 102 ∷ 105 ∷ 120 ∷ 32 ∷ 108 ∷ 101 ∷ 102 ∷ 116 ∷ 32 ∷ 57 ∷ 57 ∷ 48 ∷ 45 ∷ 45 ∷ 59 ∷ 10 ∷ 112 ∷ 111 ∷ 115 ∷ 116 ∷ 102 ∷ 105 ∷ 120 ∷ 32 ∷ 108 ∷ 101 ∷ 102 ∷ 116 ∷ 10 ∷ 52 ∷ 48 ∷ 48 ∷ 32 ∷ 32 ∷ 109 ∷ 59 ∷ 105 ∷ 110 ∷ 32 ∷ 110 ∷ 111 ∷ 116 ∷ 32 ∷ 108 ∷ 101 ∷ 116 ∷ 13 ∷ 10 ∷ 105 ∷ 110 ∷ 102 ∷ 105 ∷ 120 ∷ 13 ∷ 10 ∷ 114 ∷ 105 ∷ 103 ∷ 104 ∷ 116 ∷ 10 ∷ 55 ∷ 48 ∷ 48 ∷ 110 ∷ 111 ∷ 110 ∷ 10 ∷ 59 ∷ 32 ∷ 112 ∷ 114 ∷ 101 ∷ 102 ∷ 105 ∷ 120 ∷ 13 ∷ 10 ∷ 114 ∷ 105 ∷ 103 ∷ 104 ∷ 116 ∷ 13 ∷ 10 ∷ 53 ∷ 48 ∷ 48 ∷ 32 ∷ 60 ∷ 10 ∷ 59 ∷ 32 ∷ 10 ∷ 32 ∷ 112 ∷ 114 ∷ 101 ∷ 102 ∷ 105 ∷ 120 ∷ 32 ∷ 32 ∷ 110 ∷ 111 ∷ 110 ∷ 32 ∷ 51 ∷ 48 ∷ 48 ∷ 32 ∷ 10 ∷ 32 ∷ 47 ∷ 32 ∷ 59 ∷ 112 ∷ 108 ∷ 97 ∷ 105 ∷ 110 ∷ 10 ∷ 60 ∷ 59 ∷ 32 ∷ 112 ∷ 111 ∷ 115 ∷ 116 ∷ 102 ∷ 105 ∷ 120 ∷ 10 ∷ 110 ∷ 111 ∷ 110 ∷ 13 ∷ 10 ∷ 53 ∷ 48 ∷ 48 ∷ 32 ∷ 10 ∷ 32 ∷ 42 ∷ 42 ∷ 9 ∷ 59 ∷ 105 ∷ 110 ∷ 32 ∷ 108 ∷ 101 ∷ 116 ∷ 9 ∷ 105 ∷ 110 ∷ 102 ∷ 105 ∷ 120 ∷ 13 ∷ 10 ∷ 108 ∷ 101 ∷ 102 ∷ 116 ∷ 32 ∷ 32 ∷ 48 ∷ 55 ∷ 48 ∷ 48 ∷ 115 ∷ 13 ∷ 10 ∷ 59 ∷ 32 ∷ 105 ∷ 110 ∷ 32 ∷ 10 ∷ 32 ∷ 43 ∷ 43 ∷ 32 ∷ 10 ∷ 32 ∷ 42 ∷ 57 ∷ 48 ∷ 55 ∷ 57 ∷ 57 ∷ 50 ∷ 52 ∷ 49 ∷ 56 ∷ 101 ∷ 110 ∷ 100 ∷ 9 ∷ 101 ∷ 110 ∷ 100 ∷ 32 ∷ 45 ∷ 9 ∷ 40 ∷ 9 ∷ 108 ∷ 101 ∷ 116 ∷ 10 ∷ 105 ∷ 110 ∷ 32 ∷ 32 ∷ 108 ∷ 101 ∷ 116 ∷ 32 ∷ 112 ∷ 108 ∷ 97 ∷ 105 ∷ 110 ∷ 42 ∷ 13 ∷ 10 ∷ 59 ∷ 105 ∷ 110 ∷ 32 ∷ 105 ∷ 9 ∷ 101 ∷ 110 ∷ 100 ∷ 32 ∷ 101 ∷ 110 ∷ 100 ∷ 32 ∷ 109 ∷ 41 ∷ 32 ∷ 101 ∷ 110 ∷ 100 ∷ []); listing = bytes "refused 8 at 4\n" }
     ∷ record { text = (50 ∷ 189 ∷ 134 ∷ 224 ∷ 37 ∷ 50 ∷ 111 ∷ 105 ∷ 182 ∷ 180 ∷ 15 ∷ 221 ∷ 77 ∷ 26 ∷ 59 ∷ 121 ∷ 136 ∷ 243 ∷ 4 ∷ 208 ∷ 174 ∷ 189 ∷ 163 ∷ 217 ∷ 83 ∷ 23 ∷ 184 ∷ 64 ∷ 168 ∷ []); listing = bytes "refused 2 at 1\n" }
-    ∷ record { text = bytes "let in let plain or ; infix non 0621 ^ ; in let plain = ; in 'given-name' end * let infix non 000000982 in_ ; in left end end end"; listing = bytes "read 7\n0 name 0 0 62 10\n1 block 0 0 44 16\n2 name 0 0 113 4\n3 block 2 0 80 32\n4 infix 1 3 78 1\n5 block 4 0 7 36\n6 block 5 0 0 6\ntidy 122\nlet in let plain or ; infix non 621 ^ ; in let plain = ; in 'given-name' end * let infix non 982 in_ ; in left end end end\n" }
+    ∷ record { text = bytes "let in let plain or ; infix non 0621 ^ ; in let plain = ; in 'given-name' end * let infix non 000000982 in_ ; in left end end end"; listing = bytes "refused 17 at 17\n" }
     ∷ record { text = bytes "sn = '00'"; listing = bytes "read 3\n0 name 0 0 0 2\n1 name 0 0 6 2\n2 infix 0 1 3 1\ntidy 9\nsn = '00'\n" }
     ∷ record { text = bytes "00000007 00000007"; listing = bytes "refused 11 at 0\n" }
     ∷ record { text = bytes "let plain :- ; infix left 250 :- ; prefix non 250 :- ; postfix left 250 :- ; in / + 941056944 * infix end"; listing = bytes "read 6\n0 name 0 0 80 1\n1 number 0 0 84 9\n2 name 0 0 96 5\n3 infix 1 2 94 1\n4 infix 0 3 82 1\n5 block 4 0 0 79\ntidy 105\nlet plain :- ; infix left 250 :- ; prefix non 250 :- ; postfix left 250 :- ; in / + 941056944 * infix end\n" }
@@ -62,7 +62,7 @@ cases =
     ∷ record { text = (108 ∷ 101 ∷ 116 ∷ 32 ∷ 112 ∷ 108 ∷ 97 ∷ 105 ∷ 110 ∷ 63 ∷ 59 ∷ 13 ∷ 10 ∷ 112 ∷ 111 ∷ 115 ∷ 116 ∷ 102 ∷ 105 ∷ 120 ∷ 32 ∷ 32 ∷ 110 ∷ 111 ∷ 110 ∷ 32 ∷ 10 ∷ 32 ∷ 52 ∷ 48 ∷ 48 ∷ 13 ∷ 10 ∷ 109 ∷ 59 ∷ 10 ∷ 112 ∷ 108 ∷ 97 ∷ 105 ∷ 110 ∷ 32 ∷ 32 ∷ 42 ∷ 32 ∷ 10 ∷ 32 ∷ 59 ∷ 10 ∷ 105 ∷ 110 ∷ 10 ∷ 108 ∷ 101 ∷ 116 ∷ 10 ∷ 112 ∷ 114 ∷ 101 ∷ 102 ∷ 105 ∷ 120 ∷ 32 ∷ 114 ∷ 105 ∷ 103 ∷ 104 ∷ 116 ∷ 32 ∷ 52 ∷ 53 ∷ 48 ∷ 32 ∷ 32 ∷ 105 ∷ 110 ∷ 102 ∷ 105 ∷ 120 ∷ 32 ∷ 32 ∷ 59 ∷ 105 ∷ 110 ∷ 32 ∷ 108 ∷ 101 ∷ 116 ∷ 32 ∷ 112 ∷ 114 ∷ 101 ∷ 102 ∷ 105 ∷ 120 ∷ 10 ∷ 110 ∷ 111 ∷ 110 ∷ 32 ∷ 32 ∷ 53 ∷ 48 ∷ 48 ∷ 32 ∷ 10 ∷ 32 ∷ 60 ∷ 32 ∷ 32 ∷ 59 ∷ 32 ∷ 112 ∷ 114 ∷ 101 ∷ 102 ∷ 105 ∷ 120 ∷ 10 ∷ 110 ∷ 111 ∷ 110 ∷ 13 ∷ 10 ∷ 51 ∷ 48 ∷ 48 ∷ 94 ∷ 32 ∷ 59 ∷ 10 ∷ 105 ∷ 110 ∷ 32 ∷ 32 ∷ 108 ∷ 101 ∷ 116 ∷ 32 ∷ 105 ∷ 110 ∷ 32 ∷ 94 ∷ 13 ∷ 10 ∷ 40 ∷ 32 ∷ 105 ∷ 110 ∷ 102 ∷ 105 ∷ 120 ∷ 9 ∷ 52 ∷ 50 ∷ 61 ∷ 112 ∷ 114 ∷ 101 ∷ 102 ∷ 105 ∷ 120 ∷ 32 ∷ 32 ∷ 43 ∷ 102 ∷ 111 ∷ 111 ∷ 32 ∷ 10 ∷ 32 ∷ 41 ∷ 32 ∷ 101 ∷ 110 ∷ 100 ∷ 32 ∷ 101 ∷ 110 ∷ 100 ∷ 32 ∷ 32 ∷ 101 ∷ 110 ∷ 100 ∷ 32 ∷ 101 ∷ 110 ∷ 100 ∷ 13 ∷ 10 ∷ []); listing = bytes "read 12\n0 number 0 0 153 2\n1 prefix 0 0 147 5\n2 name 0 0 156 6\n3 name 0 0 165 3\n4 infix 2 3 164 1\n5 infix 1 4 155 1\n6 bracket 5 0 0 0\n7 prefix 6 0 142 1\n8 block 7 0 135 6\n9 block 8 0 85 48\n10 block 9 0 52 32\n11 block 10 0 0 51\ntidy 176\nlet plain ? ; postfix non 400 m ; plain * ; in let prefix right 450 infix ; in let prefix non 500 < ; prefix non 300 ^ ; in let in ^ ( infix 42 = prefix + foo ) end end end end\n" }
     ∷ record { text = bytes "++++++++++++++++++++++++++++++++++++++++++++++++++++++++++++++++ = b"; listing = bytes "refused 4 at 0\n" }
     ∷ record { text = bytes "(1=(a+(1=let prefix non 5p;in(((let plain zz;in let plain zz;in 1=(((let in(let prefix non 5p;in let in let in(let plain zz;in let prefix non 5p;in let in not((((let in((not((-let in((a))end))))end))))end end end)end end end)end)))end end)))end)))"; listing = bytes "refused 7 at 183\n" }
-    ∷ record { text = bytes "let infix non 50 m ; infix left 450 = ; infix left 600 not ; in non = Year_7 end"; listing = bytes "refused 10 at 61\n" }
+    ∷ record { text = bytes "let infix non 50 m ; infix left 450 = ; infix left 600 not ; in non = Year_7 end"; listing = bytes "refused 17 at 55\n" }
     ∷ record { text = bytes "let plain r ; infix right 250 r ; prefix right 250 r ; plain infix ; prefix right 400 infix ; postfix left 400 infix ; plain xor ; infix left 250 xor ; prefix non 250 xor ; postfix left 250 xor ; in ( 3007527 or ++ ) + Year_7 end"; listing = bytes "read 7\n0 number 0 0 201 7\n1 name 0 0 212 2\n2 infix 0 1 209 2\n3 bracket 2 0 0 0\n4 name 0 0 219 6\n5 infix 3 4 217 1\n6 block 5 0 0 198\ntidy 229\nlet plain r ; infix right 250 r ; prefix right 250 r ; plain infix ; prefix right 400 infix ; postfix left 400 infix ; plain xor ; infix left 250 xor ; prefix non 250 xor ; postfix left 250 xor ; in ( 3007527 or ++ ) + Year_7 end\n" }
     ∷ record { text = bytes "let plain left ; prefix right 250 left ; postfix left 250 left ; plain ? ; infix left 300 ? ; prefix non 300 ? ; postfix left 300 ? ; plain -> ; prefix non 300 -> ; postfix left 300 -> ; in 1 end"; listing = bytes "read 2\n0 number 0 0 190 1\n1 block 0 0 0 189\ntidy 195\nlet plain left ; prefix right 250 left ; postfix left 250 left ; plain ? ; infix left 300 ? ; prefix non 300 ? ; postfix left 300 ? ; plain -> ; prefix non 300 -> ; postfix left 300 -> ; in 1 end\n" }
     ∷ record { text = bytes "let prefix non 1 zz ; in a zz end"; listing = bytes "refused 11 at 22\n" }
@@ -114,7 +114,7 @@ cases =
     ∷ record { text = bytes "(let plain zz;in(((let prefix non 5p;in((((((let in(let prefix non 5p;in let prefix non 5p;in let plain zz;in((let prefix non 5p;in a end))end end end)end))))))end)))end)"; listing = bytes "read 21\n0 name 0 0 132 1\n1 block 0 0 111 20\n2 bracket 1 0 0 0\n3 bracket 2 0 0 0\n4 block 3 0 94 15\n5 block 4 0 73 20\n6 block 5 0 52 20\n7 bracket 6 0 0 0\n8 block 7 0 45 6\n9 bracket 8 0 0 0\n10 bracket 9 0 0 0\n11 bracket 10 0 0 0\n12 bracket 11 0 0 0\n13 bracket 12 0 0 0\n14 bracket 13 0 0 0\n15 block 14 0 19 20\n16 bracket 15 0 0 0\n17 bracket 16 0 0 0\n18 bracket 17 0 0 0\n19 block 18 0 1 15\n20 bracket 19 0 0 0\ntidy 168\nlet plain zz ; in let prefix non 5 p ; in let in let prefix non 5 p ; in let prefix non 5 p ; in let plain zz ; in let prefix non 5 p ; in a end end end end end end end\n" }
     ∷ record { text = (32 ∷ 108 ∷ 101 ∷ 116 ∷ 13 ∷ 10 ∷ 112 ∷ 108 ∷ 97 ∷ 105 ∷ 110 ∷ 32 ∷ 10 ∷ 32 ∷ 108 ∷ 101 ∷ 102 ∷ 116 ∷ 59 ∷ 32 ∷ 10 ∷ 32 ∷ 112 ∷ 114 ∷ 101 ∷ 102 ∷ 105 ∷ 120 ∷ 13 ∷ 10 ∷ 114 ∷ 105 ∷ 103 ∷ 104 ∷ 116 ∷ 13 ∷ 10 ∷ 50 ∷ 53 ∷ 48 ∷ 9 ∷ 108 ∷ 101 ∷ 102 ∷ 116 ∷ 32 ∷ 32 ∷ 59 ∷ 13 ∷ 10 ∷ 112 ∷ 111 ∷ 115 ∷ 116 ∷ 102 ∷ 105 ∷ 120 ∷ 32 ∷ 10 ∷ 32 ∷ 108 ∷ 101 ∷ 102 ∷ 116 ∷ 32 ∷ 32 ∷ 50 ∷ 53 ∷ 48 ∷ 13 ∷ 10 ∷ 108 ∷ 101 ∷ 102 ∷ 116 ∷ 59 ∷ 13 ∷ 10 ∷ 112 ∷ 108 ∷ 97 ∷ 105 ∷ 110 ∷ 32 ∷ 32 ∷ 115 ∷ 32 ∷ 59 ∷ 32 ∷ 32 ∷ 112 ∷ 114 ∷ 101 ∷ 102 ∷ 105 ∷ 120 ∷ 13 ∷ 10 ∷ 114 ∷ 105 ∷ 103 ∷ 104 ∷ 116 ∷ 13 ∷ 10 ∷ 51 ∷ 48 ∷ 48 ∷ 115 ∷ 9 ∷ 59 ∷ 10 ∷ 112 ∷ 111 ∷ 115 ∷ 116 ∷ 102 ∷ 105 ∷ 120 ∷ 13 ∷ 10 ∷ 108 ∷ 101 ∷ 102 ∷ 116 ∷ 32 ∷ 51 ∷ 48 ∷ 48 ∷ 115 ∷ 59 ∷ 32 ∷ 105 ∷ 110 ∷ 32 ∷ 32 ∷ 89 ∷ 101 ∷ 97 ∷ 114 ∷ 95 ∷ 55 ∷ 42 ∷ 32 ∷ 40 ∷ 9 ∷ 108 ∷ 101 ∷ 102 ∷ 116 ∷ 32 ∷ 121 ∷ 102 ∷ 120 ∷ 32 ∷ 108 ∷ 101 ∷ 102 ∷ 116 ∷ 42 ∷ 32 ∷ 10 ∷ 32 ∷ 40 ∷ 32 ∷ 111 ∷ 112 ∷ 32 ∷ 108 ∷ 101 ∷ 102 ∷ 116 ∷ 43 ∷ 32 ∷ 55 ∷ 48 ∷ 55 ∷ 57 ∷ 50 ∷ 52 ∷ 54 ∷ 57 ∷ 54 ∷ 10 ∷ 41 ∷ 9 ∷ 43 ∷ 40 ∷ 32 ∷ 10 ∷ 32 ∷ 40 ∷ 9 ∷ 102 ∷ 111 ∷ 111 ∷ 41 ∷ 10 ∷ 108 ∷ 101 ∷ 102 ∷ 116 ∷ 32 ∷ 41 ∷ 32 ∷ 32 ∷ 41 ∷ 32 ∷ 10 ∷ 32 ∷ 101 ∷ 110 ∷ 100 ∷ 9 ∷ []); listing = bytes "read 18\n0 name 0 0 136 6\n1 name 0 0 151 3\n2 postfix 1 0 155 4\n3 prefix 2 0 146 4\n4 name 0 0 165 2\n5 postfix 4 0 168 4\n6 number 0 0 174 9\n7 infix 5 6 172 1\n8 bracket 7 0 0 0\n9 infix 3 8 159 1\n10 name 0 0 193 3\n11 bracket 10 0 0 0\n12 postfix 11 0 198 4\n13 bracket 12 0 0 0\n14 infix 9 13 186 1\n15 bracket 14 0 0 0\n16 infix 0 15 142 1\n17 block 16 0 1 133\ntidy 187\nlet plain left ; prefix right 250 left ; postfix left 250 left ; plain s ; prefix right 300 s ; postfix left 300 s ; in Year_7 * ( left yfx left * ( op left + 707924696 ) + foo left ) end\n" }
     ∷ record { text = bytes "let plain*;in# <7end"; listing = bytes "read 4\n0 name 0 0 13 1\n1 number 0 0 16 1\n2 infix 0 1 15 1\n3 block 2 0 0 13\ntidy 26\nlet plain * ; in # < 7 end\n" }
-    ∷ record { text = bytes "let in let infix left 600 not ; in a end end"; listing = bytes "refused 10 at 32\n" }
+    ∷ record { text = bytes "let in let infix left 600 not ; in a end end"; listing = bytes "refused 17 at 26\n" }
     ∷ record { text = bytes "let plain--;infix left 450--;postfix left 450--;plain**;infix left 400**;prefix non 400**;postfix left 400**;plain/;infix left 400/;prefix non 400/;postfix left 400/;in 42= /(op/42/)end"; listing = bytes "read 9\n0 number 0 0 169 2\n1 name 0 0 175 2\n2 number 0 0 178 2\n3 infix 1 2 177 1\n4 postfix 3 0 180 1\n5 bracket 4 0 0 0\n6 prefix 5 0 173 1\n7 infix 0 6 171 1\n8 block 7 0 0 168\ntidy 226\nlet plain -- ; infix left 450 -- ; postfix left 450 -- ; plain ** ; infix left 400 ** ; prefix non 400 ** ; postfix left 400 ** ; plain / ; infix left 400 / ; prefix non 400 / ; postfix left 400 / ; in 42 = / ( op / 42 / ) end\n" }
     ∷ record { text = bytes "not in in s s plain ' ' right s"; listing = bytes "refused 6 at 4\n" }
     ∷ record { text = bytes "let plain - ; infix non 250 - ; postfix non 250 - ; in 1 - 1 - 1 a - a a end"; listing = bytes "refused 11 at 52\n" }
@@ -140,4 +140,13 @@ cases =
     ∷ record { text = bytes "let infix non 0001 zz ; in a end"; listing = bytes "read 2\n0 name 0 0 27 1\n1 block 0 0 0 26\ntidy 29\nlet infix non 1 zz ; in a end\n" }
     ∷ record { text = (161 ∷ 89 ∷ 144 ∷ 175 ∷ 93 ∷ 251 ∷ 199 ∷ 29 ∷ 154 ∷ 109 ∷ 251 ∷ 120 ∷ 233 ∷ 65 ∷ 210 ∷ 151 ∷ 208 ∷ []); listing = bytes "refused 2 at 0\n" }
     ∷ record { text = bytes "let plain xor;infix left 450xor;prefix non 450xor;postfix left 450xor;plain non;infix left 250non;prefix non 250non;postfix left 250non;plain r;prefix right 400r;postfix non 400r;in non(709891044non 954560675)end"; listing = bytes "read 6\n0 number 0 0 186 9\n1 number 0 0 199 9\n2 infix 0 1 195 3\n3 bracket 2 0 0 0\n4 prefix 3 0 182 3\n5 block 4 0 0 181\ntidy 247\nlet plain xor ; infix left 450 xor ; prefix non 450 xor ; postfix left 450 xor ; plain non ; infix left 250 non ; prefix non 250 non ; postfix left 250 non ; plain r ; prefix right 400 r ; postfix non 400 r ; in non ( 709891044 non 954560675 ) end\n" }
+    ∷ record { text = bytes "let plain and in a end"; listing = bytes "refused 8 at 14\n" }
+    ∷ record { text = bytes "let infix left 0 and ; in a end"; listing = bytes "refused 8 at 15\n" }
+    ∷ record { text = bytes "let plain and ; in a end"; listing = bytes "refused 17 at 10\n" }
+    ∷ record { text = bytes "let infix left 700 and ; in a end"; listing = bytes "refused 17 at 19\n" }
+    ∷ record { text = bytes "let prefix right 600 not ; in not a end"; listing = bytes "refused 17 at 21\n" }
+    ∷ record { text = bytes "let postfix non 5 or ; in a end"; listing = bytes "refused 17 at 18\n" }
+    ∷ record { text = bytes "let plain - ; prefix non 07 and ; plain in a end"; listing = bytes "refused 17 at 28\n" }
+    ∷ record { text = bytes "let plain not ; prefix left 4 k ; in a end"; listing = bytes "refused 17 at 10\n" }
+    ∷ record { text = bytes "let prefix right 9 q ; infix right 3 q ; plain not ; plain in a and b end"; listing = bytes "refused 17 at 47\n" }
     ∷ []

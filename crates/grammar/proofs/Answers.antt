@@ -1,5 +1,6 @@
 -- The answers of both services by the definitions: their numbers, and what a refusal leaves in the lent buffer.
 use mathlib.Core.Path.{_≡_, refl}
+use mathlib.Core.Logic.{_⊎_, inl, inr, ⊎-elim}
 use mathlib.Core.Bool.{Bool, true, false, _&&_}
 use mathlib.Core.List.{List, []}
 use mathlib.Core.Option.{Option, none, some}
@@ -40,49 +41,54 @@ use Rattle.grammar.proofs.Operands.{Operated, words-length}
 use Rattle.grammar.proofs.Readings.{reading-operated}
 use Rattle.grammar.proofs.Logic.{and-left}
 use Rattle.grammar.proofs.RefusalNumbers.{
-  Between,
-  between-andThen,
-  between-placed,
-  between-wider,
+  Numbered,
+  FromTo,
+  OfBlocks,
+  OfChecks,
+  numbered-andThen,
+  numbered-placed,
+  numbered-wider,
   scan-between,
   nesting-between,
-  blocks-between,
+  blocks-numbered,
 }
 
--- The result of a service over the buffer `b`: its number is at most `most`; a refusal has count 0 and changes nothing in the
+-- The result of a service over the buffer `b`: its number is at most `most`, or 17; a refusal has count 0 and changes nothing in the
 -- buffer; the buffer keeps its length.
 pub record Proper (b : List ℕ) (most : ℕ) (r : Result) : Type 0 where
-  pub known : r .answer .number ≤ most
+  pub known : (r .answer .number ≤ most) ⊎ (r .answer .number ≡ 17)
   pub unchanged : (r .answer .number ≡ 0 → ⊥) → r .buffer ≡ b
   pub nothingCounted : (r .answer .number ≡ 0 → ⊥) → r .answer .count ≡ 0
   pub sameLength : length (r .buffer) ≡ length b
 
-spans-between : (text : Bytes) (ps : List Placed) (o : Option Tree) → Between 1 11 (readSpans text ps o)
+spans-numbered : (text : Bytes) (ps : List Placed) (o : Option Tree) → Numbered OfChecks (readSpans text ps o)
 unfolding readSpans
-spans-between text ps none = omega arith
-spans-between text ps (some t) = tt
+spans-numbered text ps none = inl (omega arith)
+spans-numbered text ps (some t) = tt
 
-tokens-between : (text : Bytes) (ps : List Placed) → Between 1 11 (readTokens text ps)
+tokens-numbered : (text : Bytes) (ps : List Placed) → Numbered OfChecks (readTokens text ps)
 unfolding readTokens
-tokens-between text ps =
+tokens-numbered text ps =
     let f = offsetOf text ps in
     let n = nesting [] 0 (tokensOf ps) in
     let c = checkBlocks (suc (length ps)) startTable 0 (tokensOf ps) in
-    between-andThen 1 11 (placed f n) _ (between-placed 1 11 f n (between-wider 6 7 n 1 11 (omega arith) (omega arith) (nesting-between [] 0 (tokensOf ps)))) (λ u.
-    between-andThen 1 11 (placed f c) _
-    (between-placed 1 11 f c (between-wider 8 10 c 1 11 (omega arith) (omega arith) (blocks-between (suc (length ps)) startTable 0 (tokensOf ps)))) (λ v.
-    spans-between text ps (treeOf startTable (tokensOf ps))))
+    numbered-andThen OfChecks (placed f n) _
+    (numbered-placed OfChecks f n (numbered-wider (FromTo 6 7) OfChecks (λ k b. inl (omega arith)) n (nesting-between [] 0 (tokensOf ps)))) (λ u.
+    numbered-andThen OfChecks (placed f c) _
+    (numbered-placed OfChecks f c
+    (numbered-wider OfBlocks OfChecks (λ k. ⊎-elim (λ b. inl (omega arith)) inr) c (blocks-numbered (suc (length ps)) startTable 0 (tokensOf ps)))) (λ v.
+    spans-numbered text ps (treeOf startTable (tokensOf ps))))
 
--- Checks 1 to 11 give the numbers 1 to 11.
-pub read-between : (text : Bytes) → Between 1 11 (readText text)
+-- Checks 1 to 11 and 17 give these numbers.
+pub read-numbered : (text : Bytes) → Numbered OfChecks (readText text)
 unfolding readText
-read-between text = go (leb (length text) longestText)
+read-numbered text = go (leb (length text) longestText)
   where
-    go : (b : Bool) → Between {A = Reading} 1 11 (elim b [ true ↦ andThen (scan mostTokens 0 text) (readTokens text) | false ↦ refused 1 longestText ])
+    go : (b : Bool) → Numbered {A = Reading} OfChecks (elim b [ true ↦ andThen (scan mostTokens 0 text) (readTokens text) | false ↦ refused 1 longestText ])
     go true =
-        between-andThen 1 11 (scan mostTokens 0 text) (readTokens text)
-        (between-wider 2 5 (scan mostTokens 0 text) 1 11 (omega arith) (omega arith) (scan-between mostTokens 0 text)) (tokens-between text)
-    go false = omega arith
+        numbered-andThen OfChecks (scan mostTokens 0 text) (readTokens text)
+        (numbered-wider (FromTo 2 5) OfChecks (λ k b. inl (omega arith)) (scan mostTokens 0 text) (scan-between mostTokens 0 text)) (tokens-numbered text)
+    go false = inl (omega arith)
 
 -- A tree has no more nodes than tokens.
 pub count-tokens : (t : Tree) → count t ≤ length (flat t)
@@ -98,7 +104,7 @@ over-length : (w b : List ℕ) → length w ≤ length b → length (over w b) �
 unfolding over
 over-length w b h = simp (length-append, length-drop) (omega arith)
 
-rejection-proper : (b : List ℕ) (most n p : ℕ) → n ≤ most → Proper b most (record { answer = rejection n p; buffer = b })
+rejection-proper : (b : List ℕ) (most n p : ℕ) → (n ≤ most) ⊎ (n ≡ 17) → Proper b most (record { answer = rejection n p; buffer = b })
 unfolding rejection
 rejection-proper b most n p h = record { known = h; unchanged = λ z. refl; nothingCounted = λ z. refl; sameLength = refl }
 
@@ -106,7 +112,7 @@ success-proper :
     (b : List ℕ) (most c : ℕ) (w : List ℕ) → length w ≤ length b → Proper b most (record { answer = success c; buffer = over w b })
 unfolding success
 success-proper b most c w h =
-    record { known = omega arith; unchanged = λ z. absurd (z refl); nothingCounted = λ z. absurd (z refl); sameLength = over-length w b h }
+    record { known = inl (omega arith); unchanged = λ z. absurd (z refl); nothingCounted = λ z. absurd (z refl); sameLength = over-length w b h }
 
 words-fit :
     (text : Bytes) (r : Reading) (b : List ℕ) → Operated (r .tree) → wordsPerNode * count (r .tree) ≤ length b
@@ -115,15 +121,15 @@ unfolding readingWords
 words-fit text r b q h = rw (words-length (offsetOf text (r .tokens)) (r .tree) 0 0 q) h
 
 readInto-proper :
-    (text : Bytes) (b : List ℕ) (o : Outcome Reading) → Between 1 11 o → ((r : Reading) → o ≡ passed r → Operated (r .tree))
+    (text : Bytes) (b : List ℕ) (o : Outcome Reading) → Numbered OfChecks o → ((r : Reading) → o ≡ passed r → Operated (r .tree))
     → Proper b 12 (readInto text b o)
 unfolding readInto
-readInto-proper text b (refused n p) h q = rejection-proper b 12 n p (omega arith)
+readInto-proper text b (refused n p) h q = rejection-proper b 12 n p (⊎-elim (λ k. inl (omega arith)) inr h)
 readInto-proper text b (passed r) h q = go (leb (wordsPerNode * count (r .tree)) (length b)) refl
   where
     go : (t : Bool) → leb (wordsPerNode * count (r .tree)) (length b) ≡ t → Proper b 12 (readInto text b (passed r))
     go true e = rw (e, readInto) (success-proper b 12 (count (r .tree)) (readingWords text r) (words-fit text r b (q r refl) (leb-true _ _ e)))
-    go false e = rw (e, readInto) (rejection-proper b 12 12 0 (omega arith))
+    go false e = rw (e, readInto) (rejection-proper b 12 12 0 (inl (omega arith)))
 
 writeInto-proper : (b : List ℕ) (text : Bytes) → Proper b 13 (writeInto b text)
 unfolding writeInto
@@ -134,19 +140,19 @@ writeInto-proper b text = go (leb (length text) (length b) && leb (length text) 
         rw (e, writeInto)
         (success-proper b 13 (length text) text
         (leb-true (length text) (length b) (and-left (leb (length text) (length b)) (leb (length text) longestText) e)))
-    go false e = rw (e, writeInto) (rejection-proper b 13 13 0 (omega arith))
+    go false e = rw (e, writeInto) (rejection-proper b 13 13 0 (inl (omega arith)))
 
-canonicalizeInto-proper : (b : List ℕ) (o : Outcome Reading) → Between 1 11 o → Proper b 13 (canonicalizeInto b o)
+canonicalizeInto-proper : (b : List ℕ) (o : Outcome Reading) → Numbered OfChecks o → Proper b 13 (canonicalizeInto b o)
 unfolding canonicalizeInto
-canonicalizeInto-proper b (refused n p) h = rejection-proper b 13 n p (omega arith)
+canonicalizeInto-proper b (refused n p) h = rejection-proper b 13 n p (⊎-elim (λ k. inl (omega arith)) inr h)
 canonicalizeInto-proper b (passed r) h = writeInto-proper b (readingText r)
 
--- Reading: numbers 0 to 12; a refusal leaves every word of the lent table.
+-- Reading: numbers 0 to 12 and 17; a refusal leaves every word of the lent table.
 pub read-proper : (text : Bytes) (b : List ℕ) → Proper b 12 (read text b)
 unfolding read
-read-proper text b = readInto-proper text b (readText text) (read-between text) (reading-operated text)
+read-proper text b = readInto-proper text b (readText text) (read-numbered text) (reading-operated text)
 
--- Canonicalizing: numbers 0 to 13; a refusal leaves every byte of the lent buffer.
+-- Canonicalizing: numbers 0 to 13 and 17; a refusal leaves every byte of the lent buffer.
 pub canonicalize-proper : (text : Bytes) (b : List ℕ) → Proper b 13 (canonicalize text b)
 unfolding canonicalize
-canonicalize-proper text b = canonicalizeInto-proper b (readText text) (read-between text)
+canonicalize-proper text b = canonicalizeInto-proper b (readText text) (read-numbered text)

@@ -1,5 +1,6 @@
--- Every block of a tree whose tokens passed checks 8 to 10 has allowed declarations and operators that meet the four conditions: the items
--- of the tokens are those of the tree, so the checks looked at each block of it, under the operators in force there.
+-- Every block of a tree whose tokens passed checks 8 to 10 and 17 has allowed declarations, none of a reserved operator, and operators that
+-- meet the four conditions: the items of the tokens are those of the tree, so the checks looked at each block of it, under the operators in
+-- force there.
 use mathlib.Core.Path.{_≡_, ap, _∙_}
 use mathlib.Core.List.{List, _∷_}
 use Prim.Native.Nat.{ℕ, zero, suc, _<_, _≤_}
@@ -32,11 +33,11 @@ module _ (j : ℕ) (below : (T : Table) (i : ℕ) (t : Tree) → length (flat t)
   part-lawful T (bracket t) n k = below T (k .0 .0) t (bracket-shorter t j n) (k .0 .1)
   part-lawful T (block ds t) n k =
       let c = k .0 in
-      let (w, a, u, l) = enter-sound T (c .0) (allTokens ds) (c .1) (c .3) in
+      let (w, a, u, l, r) = enter-sound T (c .0) (allTokens ds) (c .1) (c .3) in
       let d : declarations (allTokens ds) ≡ ds = declarations-told (declarations (allTokens ds)) ds w in
       let e : c .1 ≡ declareAll T ds = u ∙ ap (declareAll T) d in
       let m : Conditions (c .1) = conditions-sound (c .1) l in
-      (rw d at a, rw e at m, below (declareAll T ds) (c .2) t (block-shorter ds t j n) (rw e at (c .4)))
+      (rw d at a, rw d at r, rw e at m, below (declareAll T ds) (c .2) t (block-shorter ds t j n) (rw e at (c .4)))
   part-lawful T (node l m r) n k =
       let P = CheckedBy (checkBlocks j) T in
       let xs = yield (spanTree l) in
@@ -55,7 +56,7 @@ inner-checked : (T : Table) (t : Tree) → InnerOk T t → BlocksLawful T t → 
 inner-checked T nothing h b = tt
 inner-checked T (leaf a) h b = tt
 inner-checked T (bracket t) h b = (h .0, inner-checked T t (h .1) b)
-inner-checked T (block ds t) h b = (b .0, b .1, h .0, inner-checked (declareAll T ds) t (h .1) (b .2))
+inner-checked T (block ds t) h b = (b .0, b .2, h .0, inner-checked (declareAll T ds) t (h .1) (b .3))
 inner-checked T (node l m r) h b = (inner-checked T l (h .0) (b .0), inner-checked T r (h .1) (b .1))
 
 -- So every tree of such tokens is one whose blocks are checked.

@@ -1,6 +1,6 @@
 -- Declarations and their tokens: reading the tokens of a declaration gives it back, and what reads as a declaration is its tokens.
 -- Each part of the reader looks at one token, so each part has one law in either direction, and a declaration is the parts in a row.
--- Declarations written otherwise that change the operators in force as before pass checks 8 to 10 as before.
+-- Declarations written otherwise that change the operators in force as before pass checks 8 to 10 and 17 as before.
 use mathlib.Core.Path.{_≡_, refl, sym, ap, _∙_}
 use mathlib.Core.Bool.{Bool, true, false, true≢false}
 use mathlib.Core.List.{List, [], _∷_, _++_, map, map-id}
@@ -8,7 +8,7 @@ use mathlib.Core.Option.{Option, none, some}
 use Prim.Native.Nat.{ℕ, zero, suc, _+_, _≤_, _<_}
 use native.Mathlib.Omega.{arith}
 use lib.ListN.{length}
-use Rattle.grammar.specs.Bytes.{Bytes, same}
+use Rattle.grammar.specs.Bytes.{Bytes, same, All}
 use Rattle.grammar.specs.Token.{
   isStructure,
   structureNumber,
@@ -57,6 +57,9 @@ use Rattle.grammar.specs.Declaration.{
   firstWord,
   declaration,
   operatorPlace,
+  operatorOf,
+  isReserved,
+  Free,
   hasRoom,
   checkedAt,
   enter,
@@ -91,7 +94,7 @@ declaration-of (declares f a d m) rest e =
     (rw (and-left (allowed f a) _ e) (rw (and-right (allowed f a) _ e, precedencePart) refl))))
 declaration-of (clears m) rest e = refl
 
--- A search that did not stop: what it found and went on with, or that its test passed.
+-- A search that did not stop: what it found and went on with, that its test passed, or that its test failed.
 module _ {B C : Type 0} {stop b : B} (stopped : stop ≡ b → ⊥) where
   found :
       {A : Type 0} (o : Option A) {further : A → B} → elim o [ none ↦ stop | some x ↦ further x ] ≡ b
@@ -102,6 +105,10 @@ module _ {B C : Type 0} {stop b : B} (stopped : stop ≡ b → ⊥) where
   tested : (t : Bool) {further : B} → elim t [ true ↦ further | false ↦ stop ] ≡ b → (t ≡ true → further ≡ b → C) → C
   tested true e then = then refl e
   tested false e then = absurd (stopped e)
+
+  untested : (t : Bool) {further : B} → elim t [ true ↦ stop | false ↦ further ] ≡ b → (t ≡ false → further ≡ b → C) → C
+  untested true e then = absurd (stopped e)
+  untested false e then = then refl e
 
 no-parse : {n : ℕ} {d : Declaration} {rest : List Token} → unfit n ≡ parsed d rest → ⊥
 no-parse e = impossible cc
@@ -270,7 +277,7 @@ checked-anywhere : (i j : ℕ) (T U : Table) → checkedAt i T ≡ passed U → 
 unfolding checkedAt
 checked-anywhere i j T U e = tested no-pass (lawfulTable T) e λ p q. rw (p, checkedAt) q
 
--- Checks 8 to 10 at the end of the tokens, and one declaration further.
+-- Checks 8 to 10 and 17 at the end of the tokens, and one declaration further.
 pub enter-end : (k : ℕ) (T : Table) (i : ℕ) → enter k T i [] ≡ checkedAt i T
 unfolding enter
 enter-end zero T i = refl
@@ -287,32 +294,64 @@ room-alike : (T : Table) (d d′ : Declaration) → declare T d ≡ declare T d�
 unfolding hasRoom
 room-alike T d d′ e = rw e
 
-pub enter-step :
-    (k : ℕ) (T : Table) (i : ℕ) (ts : List Token) {d : Declaration} {rest : List Token} → declaration ts ≡ parsed d rest
-    → enter (suc k) T i ts
-    ≡ elim (hasRoom T d) [
-      | true ↦ enter k (declare T d) (i + length (declarationTokens d)) rest
-      | false ↦ refused 9 (i + operatorPlace d)
-    ]
-unfolding enter declaration
-enter-step k T i [] h = absurd (no-parse h)
-enter-step k T i (t ∷ ts) h = rw (h, enter) refl
+module _ (k : ℕ) (T : Table) (i : ℕ) (ts : List Token) {d : Declaration} {rest : List Token} (h : declaration ts ≡ parsed d rest) where
+  declaration-step :
+      enter (suc k) T i ts
+      ≡ elim (isReserved (operatorOf d)) [
+        | true ↦ refused 17 (i + operatorPlace d)
+        | false ↦
+            elim (hasRoom T d) [
+              | true ↦ enter k (declare T d) (i + length (declarationTokens d)) rest
+              | false ↦ refused 9 (i + operatorPlace d)
+            ]
+      ]
+  unfolding enter declaration
+  declaration-step = go ts h
+    where
+      go :
+          (ts : List Token) → declaration ts ≡ parsed d rest
+          → enter (suc k) T i ts
+          ≡ elim (isReserved (operatorOf d)) [
+            | true ↦ refused 17 (i + operatorPlace d)
+            | false ↦
+                elim (hasRoom T d) [
+                  | true ↦ enter k (declare T d) (i + length (declarationTokens d)) rest
+                  | false ↦ refused 9 (i + operatorPlace d)
+                ]
+          ]
+      go [] h = absurd (no-parse h)
+      go (t ∷ ts) h = rw (h, enter) refl
 
--- Checks 8 to 10 passed: the tokens are those of declarations, and what is in force behind them satisfies the four conditions.
+  -- It names a reserved operator, or not.
+  pub enter-reserved : isReserved (operatorOf d) ≡ true → enter (suc k) T i ts ≡ refused 17 (i + operatorPlace d)
+  enter-reserved r = declaration-step ∙ rw r refl
+
+  pub enter-step :
+      isReserved (operatorOf d) ≡ false
+      → enter (suc k) T i ts
+      ≡ elim (hasRoom T d) [
+        | true ↦ enter k (declare T d) (i + length (declarationTokens d)) rest
+        | false ↦ refused 9 (i + operatorPlace d)
+      ]
+  enter-step r = declaration-step ∙ rw r refl
+
+-- Checks 8 to 10 and 17 passed: the tokens are those of declarations, none of a reserved operator, and what is in force behind them
+-- satisfies the four conditions.
 enterOf-sound :
     (k : ℕ) (T : Table) (i : ℕ) (ts : List Token) (U : Table) → enter k T i ts ≡ passed U
     → (allTokens (declarationsOf k ts) ≡ ts) × (areDeclarations (declarationsOf k ts) ≡ true)
-    × (U ≡ declareAll T (declarationsOf k ts)) × (lawfulTable U ≡ true)
+    × (U ≡ declareAll T (declarationsOf k ts)) × (lawfulTable U ≡ true) × All Free (declarationsOf k ts)
 unfolding enter declarationsOf allTokens areDeclarations declareAll
-enterOf-sound zero T i [] U e = let (p, q) = checked-sound i T U e in (refl, refl, sym p, q)
+enterOf-sound zero T i [] U e = let (p, q) = checked-sound i T U e in (refl, refl, sym p, q, tt)
 enterOf-sound zero T i (t ∷ ts) U e = absurd (no-pass e)
-enterOf-sound (suc k) T i [] U e = let (p, q) = checked-sound i T U e in (refl, refl, sym p, q)
+enterOf-sound (suc k) T i [] U e = let (p, q) = checked-sound i T U e in (refl, refl, sym p, q, tt)
 enterOf-sound (suc k) T i (t ∷ ts) U e =
     read (declaration (t ∷ ts)) e λ d rest h f.
-    tested no-pass (hasRoom T d) f λ l g.
+    untested no-pass (isReserved (operatorOf d)) f λ r j.
+    tested no-pass (hasRoom T d) j λ l g.
     let (p, q) = declaration-sound (t ∷ ts) d rest h in
-    let (u, v, w, x) = enterOf-sound k (declare T d) (i + length (declarationTokens d)) rest U g in
-    rw (declarations-step k (t ∷ ts) h) (ap (_++_ (declarationTokens d)) u ∙ sym p, rw (q, areDeclarations) v, w, x)
+    let (u, v, w, x, y) = enterOf-sound k (declare T d) (i + length (declarationTokens d)) rest U g in
+    rw (declarations-step k (t ∷ ts) h) (ap (_++_ (declarationTokens d)) u ∙ sym p, rw (q, areDeclarations) v, w, x, (r, y))
   where
     read :
         {C : Type 0} (p : Parsed) {further : Declaration → List Token → Outcome Table}
@@ -324,14 +363,15 @@ enterOf-sound (suc k) T i (t ∷ ts) U e =
 pub enter-sound :
     (T : Table) (i : ℕ) (ts : List Token) (U : Table) → enter (length ts) T i ts ≡ passed U
     → (allTokens (declarations ts) ≡ ts) × (areDeclarations (declarations ts) ≡ true) × (U ≡ declareAll T (declarations ts))
-    × (lawfulTable U ≡ true)
+    × (lawfulTable U ≡ true) × All Free (declarations ts)
 unfolding declarations
 enter-sound T i ts U e = enterOf-sound (length ts) T i ts U e
 
--- Declarations written otherwise, by an `f` after which they are allowed as before and change what is in force as before.
+-- Declarations written otherwise, by an `f` after which they are allowed, name their operators and change what is in force as before.
 module _
     (f : Declaration → Declaration)
     (allows : (d : Declaration) → isDeclaration (f d) ≡ isDeclaration d)
+    (names : (d : Declaration) → operatorOf (f d) ≡ operatorOf d)
     (changes : (T : Table) (d : Declaration) → declare T (f d) ≡ declare T d)
   where
     pub declare-map : (T : Table) (ds : List Declaration) → declareAll T (map f ds) ≡ declareAll T ds
@@ -346,7 +386,7 @@ module _
         let (p, q) = declarations-first d ds e in
         rw (allows d ∙ p, areDeclarations) (allow-map ds q)
 
-    -- They pass checks 8 to 10 as before, at any token number and with any fuel that is enough.
+    -- They pass checks 8 to 10 and 17 as before, at any token number and with any fuel that is enough.
     pub enter-map :
         (k l : ℕ) (T : Table) (i j : ℕ) (ds : List Declaration) (U : Table) → areDeclarations ds ≡ true
         → length (allTokens (map f ds)) ≤ l → enter k T i (allTokens ds) ≡ passed U → enter l T j (allTokens (map f ds)) ≡ passed U
@@ -359,19 +399,20 @@ module _
         let r : length (allTokens (map f ds)) ≤ l = omega (arith, tokens-shorter (f d) (allTokens (map f ds))) in
         let before = declaration-of d (allTokens ds) p in
         let after = declaration-of (f d) (allTokens (map f ds)) (allows d ∙ p) in
-        tested no-pass (hasRoom T d)
-        (sym (enter-step k T i (declarationTokens d ++ allTokens ds) before) ∙ e) λ s u.
+        untested no-pass (isReserved (operatorOf d))
+        (sym (declaration-step k T i (declarationTokens d ++ allTokens ds) before) ∙ e) λ free t.
+        tested no-pass (hasRoom T d) t λ s u.
         let i′ = i + length (declarationTokens d) in
         let j′ = j + length (declarationTokens (f d)) in
         let room = room-alike T (f d) d (changes T d) ∙ s in
-        enter-step l T j (declarationTokens (f d) ++ allTokens (map f ds)) after
+        enter-step l T j (declarationTokens (f d) ++ allTokens (map f ds)) after (ap isReserved (names d) ∙ free)
         ∙ rw (room, changes T d) (enter-map k l (declare T d) i′ j′ ds U q r u)
 
--- Declarations that passed checks 8 to 10 pass them wherever they stand.
+-- Declarations that passed checks 8 to 10 and 17 pass them wherever they stand.
 pub enter-anywhere :
     (T : Table) (i j : ℕ) (ds : List Declaration) (U : Table) → areDeclarations ds ≡ true
     → enter (length (allTokens ds)) T i (allTokens ds) ≡ passed U → enter (length (allTokens ds)) T j (allTokens ds) ≡ passed U
 enter-anywhere T i j ds U a e =
     let n : length (allTokens (map (λ d. d) ds)) ≤ length (allTokens ds) = rw (map-id ds) (omega arith) in
     let k = length (allTokens ds) in
-    rw (map-id ds) at (enter-map (λ d. d) (λ d. refl) (λ T d. refl) k k T i j ds U a n e)
+    rw (map-id ds) at (enter-map (λ d. d) (λ d. refl) (λ d. refl) (λ T d. refl) k k T i j ds U a n e)

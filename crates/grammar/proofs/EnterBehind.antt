@@ -1,7 +1,7 @@
--- The answer of checks 8 to 10 in front of declarations that fit is the answer behind them, since each of them is read and takes effect;
+-- The answer of checks 8 to 10 and 17 in front of declarations that fit is the answer behind them, since each of them is read and takes effect;
 -- what is refused there is one step.
 use mathlib.Core.Path.{_≡_, refl, sym, ap, _∙_}
-use mathlib.Core.Bool.{true, false}
+use mathlib.Core.Bool.{Bool, true, false}
 use mathlib.Core.List.{List, [], _∷_, _++_, append-assoc, append-nil}
 use Prim.Native.Nat.{ℕ, zero, suc, _+_, _≤_, _<_}
 use native.Mathlib.Omega.{arith}
@@ -23,17 +23,28 @@ use Rattle.grammar.specs.Declaration.{
   parsed,
   declaration,
   operatorPlace,
+  operatorOf,
+  isReserved,
+  Free,
   mostOperators,
   hasRoom,
   checkedAt,
   enter,
 }
-use Rattle.grammar.proofs.Declarations.{declaration-of, declaration-sound, tokens-shorter, declarations-first, enter-end, enter-step}
+use Rattle.grammar.proofs.Declarations.{
+  declaration-of,
+  declaration-sound,
+  tokens-shorter,
+  declarations-first,
+  enter-end,
+  enter-reserved,
+  enter-step,
+}
 
--- Every table on the way has room for its operators.
+-- None names a reserved operator, and every table on the way has room for its operators.
 abbrev pub Fits : Table → List Declaration → Type 0
 Fits T [] = Unit {0}
-Fits T (d ∷ ds) = (length (declare T d) ≤ mostOperators) × Fits (declare T d) ds
+Fits T (d ∷ ds) = Free d × (length (declare T d) ≤ mostOperators) × Fits (declare T d) ds
 
 -- What is parsed leaves fewer tokens.
 pub parsed-shorter :
@@ -62,28 +73,30 @@ enter-fuel (suc k) (suc l) T i (t ∷ ts) h g = go (declaration (t ∷ ts)) refl
         → ((T : Table) (i : ℕ) (ts : List Token) → length ts ≤ k → length ts ≤ l → enter k T i ts ≡ enter l T i ts)
         → enter (suc k) T i (t ∷ ts) ≡ enter (suc l) T i (t ∷ ts)
     go (unfit n) e ih = enter-unfit (suc k) T i (t ∷ ts) n (omega arith) h e ∙ sym (enter-unfit (suc l) T i (t ∷ ts) n (omega arith) g e)
-    go (parsed d rest) e ih =
-        let s : length rest < length (t ∷ ts) = parsed-shorter (t ∷ ts) d rest e in
-        enter-step k T i (t ∷ ts) e
-        ∙ ap
-        (λ o. elim (hasRoom T d) [ true ↦ o | false ↦ refused 9 (i + operatorPlace d) ])
-        (ih (declare T d) (i + length (declarationTokens d)) rest (omega arith) (omega arith))
-        ∙ sym (enter-step l T i (t ∷ ts) e)
+    go (parsed d rest) e ih = named (isReserved (operatorOf d)) refl
+      where
+        named : (b : Bool) → isReserved (operatorOf d) ≡ b → enter (suc k) T i (t ∷ ts) ≡ enter (suc l) T i (t ∷ ts)
+        named true r = enter-reserved k T i (t ∷ ts) e r ∙ sym (enter-reserved l T i (t ∷ ts) e r)
+        named false r =
+            let s : length rest < length (t ∷ ts) = parsed-shorter (t ∷ ts) d rest e in
+            enter-step k T i (t ∷ ts) e r
+            ∙ ap
+            (λ o. elim (hasRoom T d) [ true ↦ o | false ↦ refused 9 (i + operatorPlace d) ])
+            (ih (declare T d) (i + length (declarationTokens d)) rest (omega arith) (omega arith))
+            ∙ sym (enter-step l T i (t ∷ ts) e r)
 
--- A declaration that fits takes effect; one too many is refused.
-enter-fitting :
-    (k : ℕ) (T : Table) (i : ℕ) (ts : List Token) (d : Declaration) (rest : List Token) → declaration ts ≡ parsed d rest
-    → length (declare T d) ≤ mostOperators
-    → enter (suc k) T i ts ≡ enter k (declare T d) (i + length (declarationTokens d)) rest
-unfolding hasRoom
-enter-fitting k T i ts d rest e h = rw (enter-step k T i ts e, le-leb _ _ h, hasRoom) refl
+-- A declaration that fits takes effect; one of a reserved operator and one too many are refused.
+module _
+    (k : ℕ) (T : Table) (i : ℕ) (ts : List Token) (d : Declaration) (rest : List Token) (e : declaration ts ≡ parsed d rest)
+  where
+    enter-fitting :
+        Free d → length (declare T d) ≤ mostOperators → enter (suc k) T i ts ≡ enter k (declare T d) (i + length (declarationTokens d)) rest
+    unfolding hasRoom
+    enter-fitting r h = rw (enter-step k T i ts e r, le-leb _ _ h, hasRoom) refl
 
-enter-overfull :
-    (k : ℕ) (T : Table) (i : ℕ) (ts : List Token) (d : Declaration) (rest : List Token) → length ts ≤ k
-    → declaration ts ≡ parsed d rest → mostOperators < length (declare T d) → enter k T i ts ≡ refused 9 (i + operatorPlace d)
-unfolding hasRoom
-enter-overfull zero T i ts d rest h e g = absurd (omega (arith, parsed-shorter ts d rest e))
-enter-overfull (suc k) T i ts d rest h e g = rw (enter-step k T i ts e, lt-leb _ _ g, hasRoom) refl
+    enter-overfull : Free d → mostOperators < length (declare T d) → enter (suc k) T i ts ≡ refused 9 (i + operatorPlace d)
+    unfolding hasRoom
+    enter-overfull r g = rw (enter-step k T i ts e r, lt-leb _ _ g, hasRoom) refl
 
 -- The first of declarations is read first.
 first-parsed :
@@ -108,8 +121,8 @@ enter-behind (suc k) T i (d ∷ ds) rest a f h =
     let e = first-parsed d ds rest p in
     let s : length (allTokens ds ++ rest) ≤ k = omega (arith, parsed-shorter (allTokens (d ∷ ds) ++ rest) d (allTokens ds ++ rest) e) in
     let l : length rest ≤ k = omega (arith, length-append (allTokens ds) rest) in
-    enter-fitting k T i (allTokens (d ∷ ds) ++ rest) d (allTokens ds ++ rest) e (f .0)
-    ∙ enter-behind k (declare T d) (i + length (declarationTokens d)) ds rest q (f .1) s
+    enter-fitting k T i (allTokens (d ∷ ds) ++ rest) d (allTokens ds ++ rest) e (f .0) (f .1)
+    ∙ enter-behind k (declare T d) (i + length (declarationTokens d)) ds rest q (f .2) s
     ∙ enter-fuel k (suc k) (declareAll T (d ∷ ds)) _ rest l (omega arith)
     ∙ ap (λ j. enter (suc k) (declareAll T (d ∷ ds)) j rest) (omega (arith, length-append (declarationTokens d) (allTokens ds)))
 
@@ -131,15 +144,28 @@ unfit-refused k T i ds rest n a f h g e =
     enter-behind k T i ds rest a f h
     ∙ enter-unfit k (declareAll T ds) (i + length (allTokens ds)) rest n g (omega (arith, length-append (allTokens ds) rest)) e
 
--- Check 9: the declaration that follows is one too many.
-pub overfull-refused :
-    (k : ℕ) (T : Table) (i : ℕ) (ds : List Declaration) (rest : List Token) (d : Declaration) (rest′ : List Token)
-    → areDeclarations ds ≡ true → Fits T ds → length (allTokens ds ++ rest) ≤ k → declaration rest ≡ parsed d rest′
-    → mostOperators < length (declare (declareAll T ds) d)
-    → enter k T i (allTokens ds ++ rest) ≡ refused 9 (i + length (allTokens ds) + operatorPlace d)
-overfull-refused k T i ds rest d rest′ a f h e g =
-    enter-behind k T i ds rest a f h
-    ∙ enter-overfull k (declareAll T ds) (i + length (allTokens ds)) rest d rest′ (omega (arith, length-append (allTokens ds) rest)) e g
+-- Checks 17 and 9: the declaration that follows names a reserved operator, or is one too many.
+module _
+    (T : Table) (i : ℕ) (ds : List Declaration) (rest : List Token) (d : Declaration) (rest′ : List Token) (e : declaration rest ≡ parsed d rest′)
+  where
+    -- There is fuel for it.
+    fed :
+        (k : ℕ) → areDeclarations ds ≡ true → Fits T ds → length (allTokens ds ++ rest) ≤ k → (n : ℕ)
+        → ((j : ℕ) → enter (suc j) (declareAll T ds) (i + length (allTokens ds)) rest ≡ refused n (i + length (allTokens ds) + operatorPlace d))
+        → enter k T i (allTokens ds ++ rest) ≡ refused n (i + length (allTokens ds) + operatorPlace d)
+    fed zero a f h n g = absurd (omega (arith, parsed-shorter rest d rest′ e, length-append (allTokens ds) rest))
+    fed (suc k) a f h n g = enter-behind (suc k) T i ds rest a f h ∙ g k
+
+    pub reserved-refused :
+        (k : ℕ) → areDeclarations ds ≡ true → Fits T ds → length (allTokens ds ++ rest) ≤ k → isReserved (operatorOf d) ≡ true
+        → enter k T i (allTokens ds ++ rest) ≡ refused 17 (i + length (allTokens ds) + operatorPlace d)
+    reserved-refused k a f h r = fed k a f h 17 (λ j. enter-reserved j (declareAll T ds) (i + length (allTokens ds)) rest e r)
+
+    pub overfull-refused :
+        (k : ℕ) → areDeclarations ds ≡ true → Fits T ds → length (allTokens ds ++ rest) ≤ k → Free d
+        → mostOperators < length (declare (declareAll T ds) d)
+        → enter k T i (allTokens ds ++ rest) ≡ refused 9 (i + length (allTokens ds) + operatorPlace d)
+    overfull-refused k a f h r g = fed k a f h 9 (λ j. enter-overfull j (declareAll T ds) (i + length (allTokens ds)) rest d rest′ e r g)
 
 -- Check 10: there are no more declarations, and what is in force violates one of the four conditions.
 pub unlawful-refused :

@@ -1,7 +1,7 @@
--- Rows 1 to 10 in their order: a text is refused with one of these numbers exactly where `Fault` says so, at that place. The checks come in
+-- Rows 1 to 10 and 17 in their order: a text is refused with one of these numbers exactly where `Fault` says so, at that place. The checks come in
 -- the order of the constructors of `Fault`, and what passes a check is what the next constructor asks for.
 use mathlib.Core.Path.{_≡_, refl, sym, ap, subst, _∙_}
-use mathlib.Core.Logic.{_↔_, _⊎_, inl, inr}
+use mathlib.Core.Logic.{_↔_, _⊎_, inl, inr, ⊎-elim}
 use mathlib.Core.Bool.{Bool, true, false}
 use mathlib.Core.List.{List, []}
 use mathlib.Core.Option.{Option, none, some}
@@ -19,7 +19,7 @@ use Rattle.grammar.specs.Nesting.{nesting}
 use Rattle.grammar.specs.Declaration.{startTable}
 use Rattle.grammar.specs.Tree.{Tree}
 use Rattle.grammar.specs.Blocks.{checkBlocks, treeOf}
-use Rattle.grammar.specs.Fault.{longestText, mostTokens, HasTokens, Fault, tooLong, inTokens, inNesting, inBlocks, Past}
+use Rattle.grammar.specs.Fault.{longestText, mostTokens, HasTokens, BeforeEleven, Fault, tooLong, inTokens, inNesting, inBlocks, Past}
 use Rattle.grammar.specs.Answer.{Reading, PastChecks, tokensOf, offsetOf, readSpans, readTokens, readText}
 use Rattle.grammar.proofs.Logic.{impossible}
 use Rattle.grammar.proofs.Scanned.{length-tokens, scan-spelled, spells-unique}
@@ -42,6 +42,9 @@ spans-eleven : (text : Bytes) (ps : List Placed) (o : Option Tree) (n p : ℕ) �
 unfolding readSpans
 spans-eleven text ps none n p e = cc
 spans-eleven text ps (some t) n p e = impossible cc
+
+not-eleven : (n : ℕ) → BeforeEleven n → n ≡ 11 → ⊥
+not-eleven n b e = ⊎-elim (λ c. omega arith) (λ c. omega arith) b
 
 -- A text that the scan passes, with the tokens it found.
 module _ (text : Bytes) (short : length text ≤ longestText) (ps : List Placed) (scanned : scan mostTokens 0 text ≡ passed ps) where
@@ -72,7 +75,7 @@ module _ (text : Bytes) (short : length text ≤ longestText) (ps : List Placed)
       let l = blocks-place (suc (length ts)) startTable ts n i h f in
       inBlocks tokenized (nesting-open ts .0 h) (blocks-fault ts h n i .0 f) (place i (omega arith))
 
-  tokens-told : (n p : ℕ) → n ≤ 10 → readTokens text ps ≡ refused n p → Fault text n p
+  tokens-told : (n p : ℕ) → BeforeEleven n → readTokens text ps ≡ refused n p → Fault text n p
   unfolding readTokens
   tokens-told n p l e = after-nesting (andThen-refused (placed (offsetOf text ps) nested) _ n p e)
     where
@@ -88,7 +91,7 @@ module _ (text : Bytes) (short : length text ≤ longestText) (ps : List Placed)
           ⊎ ((u : Unit {0}) × (placed (offsetOf text ps) declared ≡ passed u) × (readSpans text ps (treeOf startTable ts) ≡ refused n p))
           → Fault text n p
       after-blocks h (inl f) = let (i, g, q) = placed-at (offsetOf text ps) declared n p f in in-bytes i q (blocks-told h n i g)
-      after-blocks h (inr f) = absurd (omega (arith, spans-eleven text ps (treeOf startTable ts) n p (f .2)))
+      after-blocks h (inr f) = absurd (not-eleven n l (spans-eleven text ps (treeOf startTable ts) n p (f .2)))
 
       after-nesting :
           (placed (offsetOf text ps) nested ≡ refused n p)
@@ -99,7 +102,7 @@ module _ (text : Bytes) (short : length text ≤ longestText) (ps : List Placed)
           after-blocks (placed-passed (offsetOf text ps) nested (f .0) (f .1)) (andThen-refused (placed (offsetOf text ps) declared) _ n p (f .2))
 
 -- A text that is short enough, by what the scan answers.
-scan-told : (text : Bytes) → length text ≤ longestText → (n p : ℕ) → n ≤ 10 → andThen (scan mostTokens 0 text) (readTokens text) ≡ refused n p
+scan-told : (text : Bytes) → length text ≤ longestText → (n p : ℕ) → BeforeEleven n → andThen (scan mostTokens 0 text) (readTokens text) ≡ refused n p
     → Fault text n p
 scan-told text short n p l e = go (andThen-refused (scan mostTokens 0 text) (readTokens text) n p e)
   where
@@ -109,8 +112,8 @@ scan-told text short n p l e = go (andThen-refused (scan mostTokens 0 text) (rea
     go (inl f) = inTokens short (scan-fault text n p .0 f)
     go (inr f) = tokens-told text short (f .0) (f .1) n p l (f .2)
 
--- A refusal with one of the numbers 1 to 10 is a fault.
-refusal-fault : (text : Bytes) (n p : ℕ) → n ≤ 10 → readText text ≡ refused n p → Fault text n p
+-- A refusal with one of the numbers 1 to 10 and 17 is a fault.
+refusal-fault : (text : Bytes) (n p : ℕ) → BeforeEleven n → readText text ≡ refused n p → Fault text n p
 unfolding readText
 refusal-fault text n p l e = go (leb (length text) longestText) refl
   where
@@ -131,20 +134,20 @@ found : (text : Bytes) (ts : List Token) → HasTokens text ts → (ps : List Pl
 found text ts z = scanned-exactly text ts .1 (z .spelled, z .few)
 
 -- A fault is a refusal with its number and place.
-fault-refusal : (text : Bytes) (n p : ℕ) → Fault text n p → (readText text ≡ refused n p) × (1 ≤ n) × (n ≤ 10)
+fault-refusal : (text : Bytes) (n p : ℕ) → Fault text n p → (readText text ≡ refused n p) × BeforeEleven n
 unfolding readText andThen placed readTokens
-fault-refusal text n p (tooLong h) = (rw (lt-leb (length text) longestText h, readText), omega arith, omega arith)
+fault-refusal text n p (tooLong h) = (rw (lt-leb (length text) longestText h, readText), inl (omega arith))
 fault-refusal text n p (inTokens h f) =
     let e = scan-fault text n p .1 f in
     let b = scan-number mostTokens 0 text n p e in
-    (short-scanned text h ∙ rw e, omega arith, omega arith)
+    (short-scanned text h ∙ rw e, inl (omega arith))
 fault-refusal text n p (inNesting {ts = ts} {i = i} z f t) =
     let (ps, s, q) = found text ts z in
     let e : nesting [] 0 (tokensOf ps) ≡ refused n i = rw q (nesting-fault ts n i .1 f) in
     let l = nesting-place (tokensOf ps) n i e in
     let w : p ≡ offsetOf text ps i = token-at text ps s i p (omega (arith, length-tokens ps)) .0 (rw q t) in
     let b = nesting-number [] 0 (tokensOf ps) n i e in
-    (short-scanned text (z .short) ∙ rw (s, e, w), omega arith, omega arith)
+    (short-scanned text (z .short) ∙ rw (s, e, w), inl (omega arith))
 fault-refusal text n p (inBlocks {ts = ts} {i = i} z o f t) =
     let (ps, s, q) = found text ts z in
     let h : nesting [] 0 (tokensOf ps) ≡ passed tt = rw q (nesting-open ts .1 o) in
@@ -153,20 +156,17 @@ fault-refusal text n p (inBlocks {ts = ts} {i = i} z o f t) =
     let l = blocks-place (suc (length ps)) startTable (tokensOf ps) n i h e in
     let w : p ≡ offsetOf text ps i = token-at text ps s i p (omega (arith, length-tokens ps)) .0 (rw q t) in
     let b = blocks-number (suc (length ps)) startTable 0 (tokensOf ps) n i e in
-    (short-scanned text (z .short) ∙ rw (s, h, e, w), omega arith, omega arith)
+    (short-scanned text (z .short) ∙ rw (s, h, e, w), ⊎-elim (λ c. inl (omega arith)) inr b)
 
--- Rows 1 to 10, exactly.
-pub fault-exactly : (text : Bytes) (n p : ℕ) → ((readText text ≡ refused n p) × (n ≤ 10)) ↔ Fault text n p
-fault-exactly text n p = (λ h. refusal-fault text n p (h .1) (h .0), λ f. let (e, l, m) = fault-refusal text n p f in (e, m))
-
-pub fault-number : (text : Bytes) (n p : ℕ) → Fault text n p → (1 ≤ n) × (n ≤ 10)
-fault-number text n p f = let (e, l, m) = fault-refusal text n p f in (l, m)
+-- Rows 1 to 10 and 17, exactly.
+pub fault-exactly : (text : Bytes) (n p : ℕ) → ((readText text ≡ refused n p) × BeforeEleven n) ↔ Fault text n p
+fault-exactly text n p = (λ h. refusal-fault text n p (h .1) (h .0), fault-refusal text n p)
 
 -- At most one row holds, at one place.
 pub fault-unique : (text : Bytes) (n m p q : ℕ) → Fault text n p → Fault text m q → (n ≡ m) × (p ≡ q)
 fault-unique text n m p q f g =
-    let (e, l, k) = fault-refusal text n p f in
-    let (d, i, j) = fault-refusal text m q g in
+    let (e, k) = fault-refusal text n p f in
+    let (d, j) = fault-refusal text m q g in
     let r : _≡_ {A = Outcome Reading} (refused n p) (refused m q) = sym e ∙ d in
     (cc, cc)
 
@@ -177,8 +177,8 @@ checked-past text ps h =
       spelled = scan-spelled mostTokens 0 text ps (h .scanned);
       faultless =
           λ n p f.
-          let (e, l, m) = fault-refusal text n p f in
-          omega (arith, spans-eleven text ps (treeOf startTable (tokensOf ps)) n p (sym (past-reads text ps h) ∙ e));
+          let (e, b) = fault-refusal text n p f in
+          not-eleven n b (spans-eleven text ps (treeOf startTable (tokensOf ps)) n p (sym (past-reads text ps h) ∙ e));
     }
 
 -- .. and the other way round: a check that refused would be a fault.

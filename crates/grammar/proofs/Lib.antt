@@ -42,6 +42,8 @@ pub mod RefusalNumbers
 pub mod RefusalPlaces
 pub mod Readings
 pub mod Faults
+pub mod ReservedRoles
+pub mod ReservedNames
 pub mod TreeBlocks
 pub mod WordsOffsets
 pub mod CanonicalTree

@@ -1,7 +1,7 @@
 -- Of texts: what is read is a tree of the text's own tokens and the only one; a text past checks 1 to 10 is refused with 11 exactly
 -- where it has no tree, at its first span that has none.
 use mathlib.Core.Path.{_≡_, refl, sym, ap, _∙_}
-use mathlib.Core.Logic.{_⊎_, inl, inr}
+use mathlib.Core.Logic.{_⊎_, inl, inr, ⊎-elim}
 use mathlib.Core.Bool.{Bool, true, false}
 use mathlib.Core.List.{List, [], _∷_, _++_, List·Memᴰ, List·Memᴰ·head, Memᴰ·append-right}
 use mathlib.Core.Option.{Option, none, some}
@@ -256,7 +256,7 @@ eleven-tokens text ps p n q e =
         → PastChecks text ps
     checked h (inl b) =
         let c = placed-refused f (checkBlocks (suc (length ps)) startTable 0 (tokensOf ps)) 11 p b in
-        absurd (omega (arith, blocks-number (suc (length ps)) startTable 0 (tokensOf ps) 11 (c .0) (c .1)))
+        absurd (⊎-elim (λ b. omega arith) (λ b. omega arith) (blocks-number (suc (length ps)) startTable 0 (tokensOf ps) 11 (c .0) (c .1)))
     checked h (inr b) =
         record { short = n; scanned = q; nested = h; declared = placed-passed f (checkBlocks (suc (length ps)) startTable 0 (tokensOf ps)) (b .0) (b .1) }
 

@@ -1,6 +1,7 @@
--- Which numbers each check can give: 2 to 5 the scan, 6 and 7 the nesting, 8 to 10 declarations and blocks.
--- A check is built from refusals with a number written out, from choices and from one check after another, and each keeps the bounds.
+-- Which numbers each check can give: 2 to 5 the scan, 6 and 7 the nesting, 8 to 10 and 17 declarations and blocks.
+-- A check is built from refusals with a number written out, from choices and from one check after another, and each keeps to the numbers.
 use mathlib.Core.Path.{_≡_, refl}
+use mathlib.Core.Logic.{_⊎_, inl, inr}
 use mathlib.Core.Bool.{Bool, true, false, _&&_}
 use mathlib.Core.List.{List, [], _∷_}
 use Prim.Native.Nat.{ℕ, zero, suc, _+_, _≤_}
@@ -27,7 +28,19 @@ use Rattle.grammar.specs.Outcome.{Outcome, refused, passed, andThen, pla
 use Rattle.grammar.specs.Operator.{Table, lawfulTable}
 use Rattle.grammar.specs.Scan.{Placed, run, Front, nothing, wrong, taken, atMost, quotedName, frontOf, front, before, scan}
 use Rattle.grammar.specs.Nesting.{Move, stays, broken, enters, becomes, leaves, move, closeInnermost, nesting}
-use Rattle.grammar.specs.Declaration.{Parsed, unfit, parsed, declaration, declare, declarationTokens, hasRoom, checkedAt, enter}
+use Rattle.grammar.specs.Declaration.{
+  Parsed,
+  unfit,
+  parsed,
+  declaration,
+  declare,
+  declarationTokens,
+  operatorOf,
+  isReserved,
+  hasRoom,
+  checkedAt,
+  enter,
+}
 use Rattle.grammar.specs.Span.{Item, single, pair, scope, items}
 use Rattle.grammar.specs.Blocks.{checkItem, checkItems, checkBlocks}
 
@@ -40,12 +53,17 @@ module _ {A : Type 0} where
   pub refuses-holds : (P : ℕ → ℕ → Type 0) (o : Outcome A) → Refuses P o → (n p : ℕ) → o ≡ refused n p → P n p
   refuses-holds P o b n p e = rw e at b
 
-  -- Every refusal of the outcome has a number from `low` to `high`.
-  abbrev pub Between : ℕ → ℕ → Outcome A → Type 0
-  Between low high = Refuses (λ n p. (low ≤ n) × (n ≤ high))
+  -- `P` holds of the number of every refusal of the outcome, ..
+  abbrev pub Numbered : (ℕ → Type 0) → Outcome A → Type 0
+  Numbered P = Refuses (λ n p. P n)
 
-  pub between-number : (low high : ℕ) (o : Outcome A) → Between low high o → (n p : ℕ) → o ≡ refused n p → (low ≤ n) × (n ≤ high)
-  between-number low high = refuses-holds (λ n p. (low ≤ n) × (n ≤ high))
+  pub numbered-holds : (P : ℕ → Type 0) (o : Outcome A) → Numbered P o → (n p : ℕ) → o ≡ refused n p → P n
+  numbered-holds P = refuses-holds (λ n p. P n)
+
+  -- .. and so does what follows from it.
+  pub numbered-wider : (P Q : ℕ → Type 0) → ((n : ℕ) → P n → Q n) → (o : Outcome A) → Numbered P o → Numbered Q o
+  numbered-wider P Q f (refused n p) b = f n b
+  numbered-wider P Q f (passed a) b = tt
 
   -- A choice between two, whatever the test.
   pub choice : (P : A → Type 0) (b : Bool) (x y : A) → P x → P y → P (elim b [ true ↦ x | false ↦ y ])
@@ -59,20 +77,27 @@ unfolding andThen
 refuses-andThen P (refused n p) f b c = b
 refuses-andThen P (passed a) f b c = c a
 
-pub between-andThen : {A B : Type 0} (low high : ℕ) (o : Outcome A) (f : A → Outcome B)
-    → Between low high o → ((a : A) → Between low high (f a)) → Between low high (andThen o f)
-between-andThen low high = refuses-andThen (λ n p. (low ≤ n) × (n ≤ high))
+pub numbered-andThen : {A B : Type 0} (P : ℕ → Type 0) (o : Outcome A) (f : A → Outcome B)
+    → Numbered P o → ((a : A) → Numbered P (f a)) → Numbered P (andThen o f)
+numbered-andThen P = refuses-andThen (λ n p. P n)
 
-pub between-placed : {A : Type 0} (low high : ℕ) (f : ℕ → ℕ) (o : Outcome A) → Between low high o → Between low high (placed f o)
+pub numbered-placed : {A : Type 0} (P : ℕ → Type 0) (f : ℕ → ℕ) (o : Outcome A) → Numbered P o → Numbered P (placed f o)
 unfolding placed
-between-placed low high f (refused n p) b = b
-between-placed low high f (passed a) b = tt
+numbered-placed P f (refused n p) b = b
+numbered-placed P f (passed a) b = tt
 
--- Wider bounds hold too.
-pub between-wider :
-    {A : Type 0} (low high : ℕ) (o : Outcome A) (least most : ℕ) → least ≤ low → high ≤ most → Between low high o → Between least most o
-between-wider low high (refused n p) least most l h b = omega arith
-between-wider low high (passed a) least most l h b = tt
+-- The numbers from `low` to `high`; those of declarations and blocks; those of all checks in front of 12 and 13.
+abbrev pub FromTo : ℕ → ℕ → ℕ → Type 0
+FromTo low high n = (low ≤ n) × (n ≤ high)
+
+abbrev pub OfBlocks : ℕ → Type 0
+OfBlocks n = FromTo 8 10 n ⊎ (n ≡ 17)
+
+abbrev pub OfChecks : ℕ → Type 0
+OfChecks n = FromTo 1 11 n ⊎ (n ≡ 17)
+
+abbrev pub Between : {A : Type 0} → ℕ → ℕ → Outcome A → Type 0
+Between low high = Numbered (FromTo low high)
 
 -- What stands at the front of a text is refused by 2, 3 or 4.
 abbrev FrontBetween : Front → Type 0
@@ -125,7 +150,7 @@ scan-between (suc room) at s =
     scan-step (front (drop (run isBlankByte s) s)) _ _ (front-between _) (λ k b. omega arith) (λ t m. before-between _ _ (scan-between room _ _))
 
 pub scan-number : (room at : ℕ) (s : Bytes) (n p : ℕ) → scan room at s ≡ refused n p → (2 ≤ n) × (n ≤ 5)
-scan-number room at s = between-number 2 5 (scan room at s) (scan-between room at s)
+scan-number room at s = numbered-holds (FromTo 2 5) (scan room at s) (scan-between room at s)
 
 nesting-step : (os : List Open) (i : ℕ) (t : Token) (ts : List Token) → ((os : List Open) (i : ℕ) → Between 6 7 (nesting os i ts))
     → (m : Move) → move os t ≡ m → Between 6 7 (nesting os i (t ∷ ts))
@@ -143,48 +168,47 @@ nesting-between (o ∷ os) i [] = omega arith
 nesting-between os i (t ∷ ts) = nesting-step os i t ts (λ us j. nesting-between us j ts) (move os t) refl
 
 pub nesting-number : (os : List Open) (i : ℕ) (ts : List Token) (n p : ℕ) → nesting os i ts ≡ refused n p → (6 ≤ n) × (n ≤ 7)
-nesting-number os i ts = between-number 6 7 (nesting os i ts) (nesting-between os i ts)
+nesting-number os i ts = numbered-holds (FromTo 6 7) (nesting os i ts) (nesting-between os i ts)
 
-checkedAt-between : (i : ℕ) (T : Table) → Between 8 10 (checkedAt i T)
+checkedAt-numbered : (i : ℕ) (T : Table) → Numbered OfBlocks (checkedAt i T)
 unfolding checkedAt
-checkedAt-between i T = choice (Between 8 10) (lawfulTable T) _ _ tt (omega arith)
+checkedAt-numbered i T = choice (Numbered OfBlocks) (lawfulTable T) _ _ tt (inl (omega arith))
 
 enter-step : (k : ℕ) (T : Table) (i : ℕ) (t : Token) (ts : List Token)
-    → ((T : Table) (i : ℕ) (ts : List Token) → Between 8 10 (enter k T i ts)) → (d : Parsed) → declaration (t ∷ ts) ≡ d
-    → Between 8 10 (enter (suc k) T i (t ∷ ts))
+    → ((T : Table) (i : ℕ) (ts : List Token) → Numbered OfBlocks (enter k T i ts)) → (d : Parsed) → declaration (t ∷ ts) ≡ d
+    → Numbered OfBlocks (enter (suc k) T i (t ∷ ts))
 unfolding enter
-enter-step k T i t ts rest (unfit n) e = rw (e, enter) (omega arith)
+enter-step k T i t ts rest (unfit n) e = rw (e, enter) (inl (omega arith))
 enter-step k T i t ts rest (parsed d us) e =
-    rw (e, enter) (choice (Between 8 10) (hasRoom T d) _ _ (rest (declare T d) (i + length (declarationTokens d)) us) (omega arith))
+    rw (e, enter)
+    (choice (Numbered OfBlocks) (isReserved (operatorOf d)) _ _ (inr refl)
+    (choice (Numbered OfBlocks) (hasRoom T d) _ _ (rest (declare T d) (i + length (declarationTokens d)) us) (inl (omega arith))))
 
-enter-between : (k : ℕ) (T : Table) (i : ℕ) (ts : List Token) → Between 8 10 (enter k T i ts)
+enter-numbered : (k : ℕ) (T : Table) (i : ℕ) (ts : List Token) → Numbered OfBlocks (enter k T i ts)
 unfolding enter
-enter-between zero T i [] = checkedAt-between i T
-enter-between zero T i (t ∷ ts) = omega arith
-enter-between (suc k) T i [] = checkedAt-between i T
-enter-between (suc k) T i (t ∷ ts) = enter-step k T i t ts (enter-between k) (declaration (t ∷ ts)) refl
+enter-numbered zero T i [] = checkedAt-numbered i T
+enter-numbered zero T i (t ∷ ts) = inl (omega arith)
+enter-numbered (suc k) T i [] = checkedAt-numbered i T
+enter-numbered (suc k) T i (t ∷ ts) = enter-step k T i t ts (enter-numbered k) (declaration (t ∷ ts)) refl
 
-pub enter-number : (k : ℕ) (T : Table) (i : ℕ) (ts : List Token) (n p : ℕ) → enter k T i ts ≡ refused n p → (8 ≤ n) × (n ≤ 10)
-enter-number k T i ts = between-number 8 10 (enter k T i ts) (enter-between k T i ts)
-
-module _ (inner : Table → ℕ → List Token → Outcome (Unit {0})) (bounded : (T : Table) (i : ℕ) (ts : List Token) → Between 8 10 (inner T i ts)) where
-  checkItem-between : (T : Table) (i : ℕ) (x : Item) → Between 8 10 (checkItem inner T i x)
+module _ (inner : Table → ℕ → List Token → Outcome (Unit {0})) (numbered : (T : Table) (i : ℕ) (ts : List Token) → Numbered OfBlocks (inner T i ts)) where
+  checkItem-numbered : (T : Table) (i : ℕ) (x : Item) → Numbered OfBlocks (checkItem inner T i x)
   unfolding checkItem
-  checkItem-between T i (single t) = tt
-  checkItem-between T i (pair ts) = bounded T (suc i) ts
-  checkItem-between T i (scope ds ts) =
-      between-andThen 8 10 (enter (length ds) T (suc i) ds) _ (enter-between (length ds) T (suc i) ds) (λ U. bounded U (suc (suc (i + length ds))) ts)
+  checkItem-numbered T i (single t) = tt
+  checkItem-numbered T i (pair ts) = numbered T (suc i) ts
+  checkItem-numbered T i (scope ds ts) =
+      numbered-andThen OfBlocks (enter (length ds) T (suc i) ds) _ (enter-numbered (length ds) T (suc i) ds) (λ U. numbered U (suc (suc (i + length ds))) ts)
 
-  checkItems-between : (T : Table) (i : ℕ) (xs : List Item) → Between 8 10 (checkItems inner T i xs)
+  checkItems-numbered : (T : Table) (i : ℕ) (xs : List Item) → Numbered OfBlocks (checkItems inner T i xs)
   unfolding checkItems
-  checkItems-between T i [] = tt
-  checkItems-between T i (x ∷ xs) =
-      between-andThen 8 10 (checkItem inner T i x) _ (checkItem-between T i x) (λ u. checkItems-between _ _ xs)
+  checkItems-numbered T i [] = tt
+  checkItems-numbered T i (x ∷ xs) =
+      numbered-andThen OfBlocks (checkItem inner T i x) _ (checkItem-numbered T i x) (λ u. checkItems-numbered _ _ xs)
 
-pub blocks-between : (k : ℕ) (T : Table) (i : ℕ) (ts : List Token) → Between 8 10 (checkBlocks k T i ts)
+pub blocks-numbered : (k : ℕ) (T : Table) (i : ℕ) (ts : List Token) → Numbered OfBlocks (checkBlocks k T i ts)
 unfolding checkBlocks
-blocks-between zero T i ts = tt
-blocks-between (suc k) T i ts = checkItems-between (checkBlocks k) (blocks-between k) T i (items ts)
+blocks-numbered zero T i ts = tt
+blocks-numbered (suc k) T i ts = checkItems-numbered (checkBlocks k) (blocks-numbered k) T i (items ts)
 
-pub blocks-number : (k : ℕ) (T : Table) (i : ℕ) (ts : List Token) (n p : ℕ) → checkBlocks k T i ts ≡ refused n p → (8 ≤ n) × (n ≤ 10)
-blocks-number k T i ts = between-number 8 10 (checkBlocks k T i ts) (blocks-between k T i ts)
+pub blocks-number : (k : ℕ) (T : Table) (i : ℕ) (ts : List Token) (n p : ℕ) → checkBlocks k T i ts ≡ refused n p → OfBlocks n
+blocks-number k T i ts = numbered-holds OfBlocks (checkBlocks k T i ts) (blocks-numbered k T i ts)

@@ -1,4 +1,4 @@
--- Where checks 6 to 10 can refuse: 6 and 7 at a token or behind the last one, 8 to 10 at a token.
+-- Where checks 6 to 10 and 17 can refuse: 6 and 7 at a token or behind the last one, 8 to 10 and 17 at a token.
 -- One bound `m` on the places serves a whole check: the tokens left end below `m` where the check may refuse behind the last one,
 -- and at `m` at most where it does not.
 use mathlib.Core.Path.{_≡_, refl, ap, _∙_}
@@ -36,6 +36,8 @@ use Rattle.grammar.specs.Declaration.{
   firstWord,
   declaration,
   operatorPlace,
+  operatorOf,
+  isReserved,
   hasRoom,
   checkedAt,
   enter,
@@ -128,7 +130,7 @@ module _ (m : ℕ) where
   unfolding checkedAt
   checkedAt-below i T h = choice (Below m) (lawfulTable T) _ _ tt h
 
-  -- One declaration of checks 8 to 10.
+  -- One declaration of checks 8 to 10 and 17.
   enter-step : (k : ℕ) (T : Table) (i : ℕ) (t : Token) (ts : List Token)
       → ((T : Table) (i : ℕ) (ts : List Token) → i + length ts < m → Below m (enter k T i ts)) → i + length (t ∷ ts) < m
       → (d : Parsed) → declaration (t ∷ ts) ≡ d → Below m (enter (suc k) T i (t ∷ ts))
@@ -139,11 +141,11 @@ module _ (m : ℕ) where
   enter-step k T i t ts rest h (parsed d us) e =
       let j = length (declarationTokens d) in
       let n : length (t ∷ ts) ≡ j + length us = ap length (declaration-sound (t ∷ ts) d us e .0) ∙ length-append (declarationTokens d) us in
+      let o : i + operatorPlace d < m = omega (arith, operator-inside d) in
       rw (e, enter)
-      (choice (Below m) (hasRoom T d) _ _ (rest (declare T d) (i + j) us (omega arith))
-      (omega (arith, operator-inside d)))
+      (choice (Below m) (isReserved (operatorOf d)) _ _ o (choice (Below m) (hasRoom T d) _ _ (rest (declare T d) (i + j) us (omega arith)) o))
 
-  -- Checks 8 to 10 of declarations refuse at one of their tokens or behind the last one, at the `in`.
+  -- Checks 8 to 10 and 17 of declarations refuse at one of their tokens or behind the last one, at the `in`.
   enter-below : (k : ℕ) (T : Table) (i : ℕ) (ts : List Token) → i + length ts < m → Below m (enter k T i ts)
   unfolding enter
   enter-below zero T i [] h = checkedAt-below i T (omega arith)
@@ -153,7 +155,7 @@ module _ (m : ℕ) where
 
   module _ (inner : Table → ℕ → List Token → Outcome (Unit {0}))
       (below : (T : Table) (i : ℕ) (ts : List Token) → Passes [] ts → i + length ts ≤ m → Below m (inner T i ts)) where
-    -- Checks 8 to 10 of an item that ends at `m` at most: behind the declarations of a block its `in` still follows.
+    -- Checks 8 to 10 and 17 of an item that ends at `m` at most: behind the declarations of a block its `in` still follows.
     checkItem-below : (T : Table) (i : ℕ) (x : Item) → ItemNested x → i + length (itemTokens x) ≤ m → Below m (checkItem inner T i x)
     unfolding checkItem itemTokens
     checkItem-below T i (single t) n h = tt
@@ -174,7 +176,7 @@ module _ (m : ℕ) where
         refuses-andThen (λ n p. p < m) (checkItem inner T i x) _ (checkItem-below T i x (n .0) (omega arith))
         (λ u. checkItems-below T (i + length (itemTokens x)) xs (n .1) (omega arith))
 
-  -- Checks 8 to 10 of nested tokens that end at `m` at most.
+  -- Checks 8 to 10 and 17 of nested tokens that end at `m` at most.
   blocks-below : (k : ℕ) (T : Table) (i : ℕ) (ts : List Token) → Passes [] ts → i + length ts ≤ m → Below m (checkBlocks k T i ts)
   unfolding checkBlocks
   blocks-below zero T i ts n h = tt
@@ -187,7 +189,7 @@ nesting-place ts n p e =
     let m = suc (length ts) in
     omega (arith, refuses-holds (λ n p. p < m) (nesting [] 0 ts) (nesting-below m [] 0 ts (omega arith)) n p e)
 
--- Checks 8 to 10 refuse at a token.
+-- Checks 8 to 10 and 17 refuse at a token.
 pub blocks-place : (k : ℕ) (T : Table) (ts : List Token) (n p : ℕ) → nesting [] 0 ts ≡ passed tt → checkBlocks k T 0 ts ≡ refused n p
     → p < length ts
 blocks-place k T ts n p h e =

@@ -8,11 +8,12 @@ use mathlib.Core.Option.{Option, none}
 use Prim.Native.Nat.{ℕ, zero, suc, _+_, _<_}
 use native.Mathlib.Omega.{arith}
 use lib.ListN.{length, length-append}
+use Rattle.grammar.specs.Bytes.{All}
 use Rattle.grammar.specs.Token.{Token}
 use Rattle.grammar.specs.Outcome.{passed}
 use Rattle.grammar.specs.Nesting.{nesting}
 use Rattle.grammar.specs.Operator.{Table}
-use Rattle.grammar.specs.Declaration.{startTable, allTokens, declarations}
+use Rattle.grammar.specs.Declaration.{startTable, allTokens, declarations, Free}
 use Rattle.grammar.specs.Span.{Item, single, pair, scope, itemTokens, allItemTokens, items}
 use Rattle.grammar.specs.Spans.{Span, startOf, numberBehind, wholeSpan, pairSpan, bodySpan, SpanIn, itself, inPair, inBody, SpanOf}
 use Rattle.grammar.specs.Blocks.{bodyTable, checkBlocks, itemSpans, allItemSpans, spans}
@@ -23,15 +24,16 @@ use Rattle.grammar.proofs.Nested.{nesting-anywhere}
 use Rattle.grammar.proofs.ItemsRelation.{items-of, items-only}
 use Rattle.grammar.proofs.TextSound.{Nested, Known, known-items, pair-within, scope-within}
 
--- Tokens past checks 6 to 10 under the operators `T`, with fuel `k` that is enough.
-abbrev PastUnder : ℕ → Table → List Token → Type 0
+-- Tokens past checks 6 to 10 and 17 under the operators `T`, with fuel `k` that is enough.
+abbrev pub PastUnder : ℕ → Table → List Token → Type 0
 PastUnder k T ts = Nested ts × (length ts < k) × ((n : ℕ) × (checkBlocks k T n ts ≡ passed tt))
 
--- What the checks say of an item of such tokens: what is inside is past them too, and declaration parts are declarations.
-abbrev ItemPast : ℕ → Table → Item → Type 0
+-- What the checks say of an item of such tokens: what is inside is past them too, and declaration parts are declarations, none of a
+-- reserved operator.
+abbrev pub ItemPast : ℕ → Table → Item → Type 0
 ItemPast k T (single a) = Unit {0}
 ItemPast k T (pair us) = PastUnder k T us
-ItemPast k T (scope ds us) = (allTokens (declarations ds) ≡ ds) × PastUnder k (bodyTable T ds) us
+ItemPast k T (scope ds us) = (allTokens (declarations ds) ≡ ds) × PastUnder k (bodyTable T ds) us × All Free (declarations ds)
 
 item-past : (k : ℕ) (T : Table) (x : Item) → Known k T x → ItemPast k T x
 unfolding bodyTable
@@ -39,10 +41,10 @@ item-past k T (single a) h = tt
 item-past k T (pair us) h = (h .0 .0, pair-within k us (h .0 .1), h .1)
 item-past k T (scope ds us) h =
     let (i, U, j, entered, inner) = h .1 in
-    let (d, a, e, l) = enter-sound T i ds U entered in
-    (d, (h .0 .0 .1, scope-within k ds us (h .0 .1), (j, rw e at inner)))
+    let (d, a, e, l, free) = enter-sound T i ds U entered in
+    (d, (h .0 .0 .1, scope-within k ds us (h .0 .1), (j, rw e at inner)), free)
 
-past-at : (k : ℕ) (T : Table) (ts : List Token) (xs : List Item) (x : Item) (ys : List Item) → PastUnder (suc k) T ts
+pub past-at : (k : ℕ) (T : Table) (ts : List Token) (xs : List Item) (x : Item) (ys : List Item) → PastUnder (suc k) T ts
     → items ts ≡ xs ++ x ∷ ys → ItemPast k T x
 past-at k T ts xs x ys (n, l, (i, c)) e =
     item-past k T x (all-right (Known k T) xs (x ∷ ys) (rw e at (known-items k T i ts n (omega arith) c)) .0)
@@ -125,7 +127,7 @@ in-listed {s} (inPair xs us ys ks e i h) (suc k) ts c p =
     let q = past-at k (s .table) ts xs (pair us) ys p (sym c ∙ e) in
     inside-listed k s ts xs (pair us) ys (sym c ∙ e) (in-listed h k us (items-only us ks i) q)
 in-listed {s} (inBody xs ds us ys ks e i h) (suc k) ts c p =
-    let (d, q) = past-at k (s .table) ts xs (scope (allTokens ds) us) ys p (sym c ∙ e) in
+    let (d, q, free) = past-at k (s .table) ts xs (scope (allTokens ds) us) ys p (sym c ∙ e) in
     let t = declarations-told (declarations (allTokens ds)) ds d in
     inside-listed k s ts xs (scope (allTokens ds) us) ys (sym c ∙ e) (rw t (in-listed h k us (items-only us ks i) (rw t at q)))
 
@@ -141,7 +143,7 @@ module _ (k : ℕ) (inner : ListedIn k) (s : Span) where
   item-listed-in r xs (single a) ys e p m = absurd (List·Memᴰ·not-nil m)
   item-listed-in r xs (pair us) ys e p m =
       inPair xs us ys (items us) e (items-of us 0 (p .0 0)) (inner (pairSpan s xs (items us)) us refl p r m)
-  item-listed-in r xs (scope ds us) ys e (d, p) m =
+  item-listed-in r xs (scope ds us) ys e (d, p, free) m =
       let es = declarations ds in
       inBody {s = s} xs es us ys (items us) (rw d e) (items-of us 0 (p .0 0)) (inner (bodySpan s xs es (items us)) us refl p r (rw d m))
 

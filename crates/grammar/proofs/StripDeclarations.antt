@@ -1,5 +1,5 @@
 -- Declarations without the zeros of their digits mean the same: they change the operators in force as before and pass checks 8 to 10
--- as before, since both look at the value of the digits alone. Declarations that mean the same are the same without these zeros.
+-- and 17 as before, since these look at the value of the digits and at the operator alone. Declarations that mean the same are the same without these zeros.
 use mathlib.Core.Path.{_≡_, refl, ap}
 use mathlib.Core.Logic.{_↔_}
 use mathlib.Core.Bool.{true}
@@ -22,6 +22,7 @@ use Rattle.grammar.specs.Declaration.{
   isPrecedence,
   isDeclaration,
   areDeclarations,
+  operatorOf,
   enter,
 }
 use Rattle.grammar.specs.Canonical.{stripDeclaration}
@@ -29,11 +30,16 @@ use Rattle.grammar.specs.Abstract.{takes, change}
 use Rattle.grammar.proofs.Numbers.{value-strip, strip-equal, same-digits}
 use Rattle.grammar.proofs.Declarations.{declare-map, allow-map, enter-map}
 
--- A declaration without the zeros of its digits: allowed as before, and it changes what is in force as before.
+-- A declaration without the zeros of its digits: allowed as before, of the same operator, and it changes what is in force as before.
 strip-allows : (d : Declaration) → isDeclaration (stripDeclaration d) ≡ isDeclaration d
 unfolding isDeclaration stripDeclaration isPrecedence
 strip-allows (declares f a c m) = cc (value-strip c)
 strip-allows (clears m) = refl
+
+strip-names : (d : Declaration) → operatorOf (stripDeclaration d) ≡ operatorOf d
+unfolding operatorOf stripDeclaration
+strip-names (declares f a c m) = refl
+strip-names (clears m) = refl
 
 strip-changes : (T : Table) (d : Declaration) → declare T (stripDeclaration d) ≡ declare T d
 unfolding declare stripDeclaration
@@ -41,12 +47,12 @@ strip-changes T (declares f a c m) = cc (value-strip c)
 strip-changes T (clears m) = refl
 
 pub declare-strip : (T : Table) (ds : List Declaration) → declareAll T (map stripDeclaration ds) ≡ declareAll T ds
-declare-strip = declare-map stripDeclaration strip-allows strip-changes
+declare-strip = declare-map stripDeclaration strip-allows strip-names strip-changes
 
 pub strip-declarations : (ds : List Declaration) → areDeclarations ds ≡ true → areDeclarations (map stripDeclaration ds) ≡ true
-strip-declarations = allow-map stripDeclaration strip-allows strip-changes
+strip-declarations = allow-map stripDeclaration strip-allows strip-names strip-changes
 
--- Declarations that passed checks 8 to 10 pass them without the zeros of their digits, wherever they stand.
+-- Declarations that passed checks 8 to 10 and 17 pass them without the zeros of their digits, wherever they stand.
 pub enter-strip :
     (T : Table) (i j : ℕ) (ds : List Declaration) (U : Table) → areDeclarations ds ≡ true
     → enter (length (allTokens ds)) T i (allTokens ds) ≡ passed U
@@ -54,7 +60,7 @@ pub enter-strip :
 enter-strip T i j ds U a e =
     let k = length (allTokens ds) in
     let l = length (allTokens (map stripDeclaration ds)) in
-    enter-map stripDeclaration strip-allows strip-changes k l T i j ds U a (omega arith) e
+    enter-map stripDeclaration strip-allows strip-names strip-changes k l T i j ds U a (omega arith) e
 
 -- They mean the same.
 pub change-strip : (ds : List Declaration) → map change (map stripDeclaration ds) ≡ map change ds

@@ -1,20 +1,20 @@
 -- What the claims speak of, besides the definitions of the other files.
 use mathlib.Core.Path.{_≡_}
-use mathlib.Core.Bool.{true, false}
+use mathlib.Core.Bool.{Bool, true, false}
 use mathlib.Core.List.{List, [], _∷_, _++_}
 use mathlib.Core.Option.{Option, none, some}
 use Prim.Native.Nat.{ℕ, _≤_}
 use lib.ListN.{length}
-use Rattle.grammar.specs.Bytes.{Bytes}
+use Rattle.grammar.specs.Bytes.{Bytes, All}
 use Rattle.grammar.specs.Token.{keywordLet, keywordIn, structure, characters, spelling, Token}
 use Rattle.grammar.specs.Spelling.{Spells, TokenAt}
-use Rattle.grammar.specs.Declaration.{Declaration, allTokens, startTable, areDeclarations, declareAll}
+use Rattle.grammar.specs.Declaration.{Declaration, allTokens, startTable, areDeclarations, isReserved, Free, declareAll}
 use Rattle.grammar.specs.SpanTree.{SpanTree, IsSpanTree}
 use Rattle.grammar.specs.Tree.{Tree, nothing, leaf, bracket, block, node, IsTree, flat, depth}
 use Rattle.grammar.specs.Canonical.{canonical, canonicalText, NoSpare}
 use Rattle.grammar.specs.Operator.{Conditions, Table}
 use Rattle.grammar.specs.Spans.{startOf, Span, SpanOf}
-use Rattle.grammar.specs.Fault.{Past}
+use Rattle.grammar.specs.Fault.{PastReserving}
 use Rattle.grammar.specs.Abstract.{Agree}
 
 -- What each node stands for, in the order of the table: the characters of a name or number, the operator; none for a bracket or block.
@@ -39,13 +39,14 @@ pub record FromLetToIn (ds : List Declaration) (s : Bytes) : Type 0 where
   pub ends : (x : Bytes) × (s ≡ x ++ spelling (structure keywordIn))
   pub spells : Spells s (structure keywordLet ∷ allTokens ds ++ structure keywordIn ∷ [])
 
--- Each block of a tree has allowed declarations, and its operators meet the four conditions. (Not part of what a tree is: of a text past
--- checks 1 to 10 it holds of every tree.)
+-- Each block of a tree has allowed declarations, none of a reserved operator, and its operators meet the four conditions. (Not part of what
+-- a tree is: of a text past checks 1 to 10 and 17 it holds of every tree.)
 abbrev pub BlocksLawful : Table → Tree → Type 0
 BlocksLawful T nothing = Unit {0}
 BlocksLawful T (leaf a) = Unit {0}
 BlocksLawful T (bracket t) = BlocksLawful T t
-BlocksLawful T (block ds t) = (areDeclarations ds ≡ true) × Conditions (declareAll T ds) × BlocksLawful (declareAll T ds) t
+BlocksLawful T (block ds t) =
+    (areDeclarations ds ≡ true) × All Free ds × Conditions (declareAll T ds) × BlocksLawful (declareAll T ds) t
 BlocksLawful T (node l m r) = BlocksLawful T l × BlocksLawful T r
 
 -- A span without a tree.
@@ -65,11 +66,14 @@ pub record FirstWithout (text : Bytes) (ts : List Token) (p : ℕ) : Type 0 wher
   pub first : (s : Span) → SpanOf ts s → HasNoTree s → startOf (span .opener) ≤ startOf (s .opener)
   pub place : SpanPlace text ts (span .opener) p
 
--- `t` is a tree of the text, which is past checks 1 to 10.
-pub record TreeOf (text : Bytes) (t : Tree) : Type 0 where
+-- `t` is a tree of the text, which is past checks 1 to 10 and, with the operators `reserved` reserved, 17.
+pub record TreeReserving (reserved : Bytes → Bool) (text : Bytes) (t : Tree) : Type 0 where
   pub tokens : List Token
-  pub past : Past text tokens
+  pub past : PastReserving reserved text tokens
   pub isTree : IsTree startTable tokens t
+
+abbrev pub TreeOf : Bytes → Tree → Type 0
+TreeOf = TreeReserving isReserved
 
 -- The tree and the bytes of the canonical text of a rule with the tree `t`.
 abbrev pub canonicalTree : Tree → Tree

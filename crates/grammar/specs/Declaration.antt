@@ -1,5 +1,6 @@
--- Document 01, "Marks and blocks": declarations, what they do to the operators in force, and refusals 8, 9 and 10.
-use mathlib.Core.Bool.{Bool, true, false, _&&_}
+-- Document 01, "Marks and blocks": declarations, what they do to the operators in force, and refusals 8, 9 and 10. Document 02, §9: refusal 17.
+use mathlib.Core.Path.{_≡_}
+use mathlib.Core.Bool.{Bool, true, false, _&&_, _||_}
 use mathlib.Core.List.{List, [], _∷_, _++_}
 use mathlib.Core.Option.{Option, none, some}
 use Prim.Native.Nat.{ℕ, zero, suc, _+_, _*_, _-_}
@@ -197,6 +198,18 @@ unfoldable pub operatorPlace : Declaration → ℕ
 operatorPlace (declares f a d m) = 3
 operatorPlace (clears m) = 1
 
+-- The operator that a declaration names.
+unfoldable pub operatorOf : Declaration → Bytes
+operatorOf (declares f a d m) = m
+operatorOf (clears m) = m
+
+-- 02, §9: "a declaration of any kind, `plain` included, whose mark is `and`, `or` or `not` is refused" (here: a reserved operator)
+unfoldable pub isReserved : Bytes → Bool
+isReserved m = same m (bytes "and") || same m (bytes "or") || same m (bytes "not")
+
+abbrev pub Free : Declaration → Type 0
+Free d = isReserved (operatorOf d) ≡ false
+
 -- "64 marks .. pass; one more is refused."
 abbrev pub mostOperators : ℕ
 mostOperators = 64
@@ -210,7 +223,8 @@ unfoldable pub checkedAt : ℕ → Table → Outcome Table
 checkedAt i T = elim (lawfulTable T) [ true ↦ passed T | false ↦ refused 10 i ]
 
 -- The operators in force behind the declarations `ts`, the first of which is token number `i`.
--- "each declaration complete through its `;` before it takes effect (8, then 9), then 10"; the first number is fuel: no fewer than the tokens.
+-- "each declaration complete through its `;` before it takes effect (8, then 9), then 10", and "17 .. for each complete declaration after 8
+-- and before 9"; the first number is fuel: no fewer than the tokens.
 unfoldable pub enter : ℕ → Table → ℕ → List Token → Outcome Table
 enter zero T i [] = checkedAt i T
 enter zero T i (t ∷ ts) = refused 8 i
@@ -219,9 +233,13 @@ enter (suc k) T i (t ∷ ts) =
     elim (declaration (t ∷ ts)) [
       | unfit n ↦ refused 8 (i + n)
       | parsed d rest ↦
-          elim (hasRoom T d) [
-            | true ↦ enter k (declare T d) (i + length (declarationTokens d)) rest
-            | false ↦ refused 9 (i + operatorPlace d)
+          elim (isReserved (operatorOf d)) [
+            | true ↦ refused 17 (i + operatorPlace d)
+            | false ↦
+                elim (hasRoom T d) [
+                  | true ↦ enter k (declare T d) (i + length (declarationTokens d)) rest
+                  | false ↦ refused 9 (i + operatorPlace d)
+                ]
           ]
     ]
 

@@ -1,7 +1,9 @@
--- Document 01, "Thirteen ways to say no", rows 1 to 10: which row holds of a text, and at which place. "A refusal comes exactly when its
--- row holds and none earlier in the order does." Nothing here says how a text is checked.
+-- Document 01, "Thirteen ways to say no", rows 1 to 10, and row 17 of document 02, §9: which row holds of a text, and at which place. "A
+-- refusal comes exactly when its row holds and none earlier in the order does." Nothing here says how a text is checked.
+-- Which operators are reserved is a parameter where §9 matters. `Fault` is that of the three; with none reserved it is document 01's alone.
 use mathlib.Core.Path.{_≡_}
-use mathlib.Core.Bool.{true, _||_}
+use mathlib.Core.Bool.{Bool, true, false, _||_}
+use mathlib.Core.Logic.{_⊎_}
 use mathlib.Core.List.{List, [], _∷_, _++_}
 use Prim.Native.Nat.{ℕ, suc, _+_, _≤_, _<_}
 use lib.ListN.{length, take}
@@ -11,7 +13,19 @@ use Rattle.grammar.specs.Token.{spelling, isWord, isSign, isNumber, isTo
 use Rattle.grammar.specs.Spelling.{continues, Stops, Splits, Spells, GoesOn, TokenAt}
 use Rattle.grammar.specs.Open.{Open, Fits, deepest, OpenAfter}
 use Rattle.grammar.specs.Operator.{Table, Conditions}
-use Rattle.grammar.specs.Declaration.{Declaration, declare, declarationTokens, allTokens, isDeclaration, operatorPlace, mostOperators}
+use Rattle.grammar.specs.Declaration.{
+  Declaration,
+  declare,
+  declarationTokens,
+  allTokens,
+  isDeclaration,
+  areDeclarations,
+  operatorPlace,
+  operatorOf,
+  isReserved,
+  Free,
+  mostOperators,
+}
 use Rattle.grammar.specs.Spans.{BlockOf}
 
 -- "16,384 bytes, 1,024 tokens .. pass; one more is refused."
@@ -55,12 +69,12 @@ pub data NestingFault (ts : List Token) : ℕ → ℕ → Type 0 where
       (xs : List Token) (t : Token) (ys : List Token) {os ps : List Open} → ts ≡ xs ++ t ∷ ys → OpenAfter xs os → Fits os t ps → deepest < length ps
       → NestingFault ts 7 (length xs)
 
--- Declarations that take effect one after the other, so that at no time more than 64 operators are in force.
-pub data TakeEffect : Table → List Declaration → Table → Type 0 where
-  unchanged : {T : Table} → TakeEffect T [] T
+-- Declarations that take effect one after the other: none names a reserved operator, and at no time more than 64 operators are in force.
+pub data TakeEffect (reserved : Bytes → Bool) : Table → List Declaration → Table → Type 0 where
+  unchanged : {T : Table} → TakeEffect reserved T [] T
   changed :
-      {T U : Table} {d : Declaration} {ds : List Declaration} → isDeclaration d ≡ true → length (declare T d) ≤ mostOperators
-      → TakeEffect (declare T d) ds U → TakeEffect T (d ∷ ds) U
+      {T U : Table} {d : Declaration} {ds : List Declaration} → isDeclaration d ≡ true → reserved (operatorOf d) ≡ false
+      → length (declare T d) ≤ mostOperators → TakeEffect reserved (declare T d) ds U → TakeEffect reserved T (d ∷ ds) U
 
 -- "first unfit token": `k` tokens begin a declaration that is not complete with them, and with one more they begin none.
 pub record FirstUnfit (ts : List Token) (k : ℕ) : Type 0 where
@@ -70,31 +84,37 @@ pub record FirstUnfit (ts : List Token) (k : ℕ) : Type 0 where
 
 -- A fault of a declaration part `ts` under the operators `T`, with the number of a token of it. "each declaration complete through its
 -- `;` before it takes effect (8, then 9), then 10"
-pub data DeclarationFault (T : Table) (ts : List Token) : ℕ → ℕ → Type 0 where
+pub data DeclarationFault (reserved : Bytes → Bool) (T : Table) (ts : List Token) : ℕ → ℕ → Type 0 where
   -- "8: declaration malformed, level outside 1 to 1200: first unfit token". Behind the last token stands the `in`.
   malformed :
-      (ds : List Declaration) (t : Token) (rest : List Token) {U : Table} {k : ℕ} → ts ≡ allTokens ds ++ t ∷ rest → TakeEffect T ds U
-      → FirstUnfit (t ∷ rest ++ structure keywordIn ∷ []) k → DeclarationFault T ts 8 (length (allTokens ds) + k)
+      (ds : List Declaration) (t : Token) (rest : List Token) {U : Table} {k : ℕ} → ts ≡ allTokens ds ++ t ∷ rest → TakeEffect reserved T ds U
+      → FirstUnfit (t ∷ rest ++ structure keywordIn ∷ []) k → DeclarationFault reserved T ts 8 (length (allTokens ds) + k)
+  -- 02, §9: "17, place the mark; for each complete declaration after 8 and before 9"
+  namesReserved :
+      (ds : List Declaration) (d : Declaration) (rest : List Token) {U : Table} → ts ≡ allTokens ds ++ (declarationTokens d ++ rest)
+      → TakeEffect reserved T ds U → isDeclaration d ≡ true → reserved (operatorOf d) ≡ true
+      → DeclarationFault reserved T ts 17 (length (allTokens ds) + operatorPlace d)
   -- "9: 65th mark in force: the mark"
   overfull :
       (ds : List Declaration) (d : Declaration) (rest : List Token) {U : Table} → ts ≡ allTokens ds ++ (declarationTokens d ++ rest)
-      → TakeEffect T ds U → isDeclaration d ≡ true → mostOperators < length (declare U d)
-      → DeclarationFault T ts 9 (length (allTokens ds) + operatorPlace d)
+      → TakeEffect reserved T ds U → isDeclaration d ≡ true → reserved (operatorOf d) ≡ false → mostOperators < length (declare U d)
+      → DeclarationFault reserved T ts 9 (length (allTokens ds) + operatorPlace d)
   -- "10: overloading rule broken: `in`"
   unlawful :
-      (ds : List Declaration) {U : Table} → ts ≡ allTokens ds → TakeEffect T ds U → (Conditions U → ⊥) → DeclarationFault T ts 10 (length ts)
+      (ds : List Declaration) {U : Table} → ts ≡ allTokens ds → TakeEffect reserved T ds U → (Conditions U → ⊥)
+      → DeclarationFault reserved T ts 10 (length ts)
 
 -- "then blocks by their `let`": the fault of the first block that has one, with the number of a token of the text.
-pub record BlockFault (ts : List Token) (n i : ℕ) : Type 0 where
+pub record BlockFault (reserved : Bytes → Bool) (ts : List Token) (n i : ℕ) : Type 0 where
   pub table : Table
   pub number : ℕ
   pub part : List Token
   pub at : ℕ
   pub block : BlockOf ts table number part
-  pub fault : DeclarationFault table part n at
+  pub fault : DeclarationFault reserved table part n at
   pub place : i ≡ suc (number + at)
   pub first :
-      (T : Table) (j : ℕ) (ds : List Token) (m k : ℕ) → BlockOf ts T j ds → DeclarationFault T ds m k → number ≤ j
+      (T : Table) (j : ℕ) (ds : List Token) (m k : ℕ) → BlockOf ts T j ds → DeclarationFault reserved T ds m k → number ≤ j
 
 -- Of a text nothing of rows 1 to 5 holds, and its tokens are `ts`.
 pub record HasTokens (text : Bytes) (ts : List Token) : Type 0 where
@@ -102,16 +122,50 @@ pub record HasTokens (text : Bytes) (ts : List Token) : Type 0 where
   pub spelled : Spells text ts
   pub few : length ts ≤ mostTokens
 
--- Row number `n` holds of the text at the place `p`, and none earlier in the order does.
-pub data Fault (text : Bytes) : ℕ → ℕ → Type 0 where
+-- Row number `n` holds of the text at the place `p`, and none earlier in the order does; the operators `reserved` are reserved.
+pub data FaultReserving (reserved : Bytes → Bool) (text : Bytes) : ℕ → ℕ → Type 0 where
   -- "1: text over 16,384 bytes: 16384"
-  tooLong : longestText < length text → Fault text 1 longestText
-  inTokens : {n p : ℕ} → length text ≤ longestText → TokenFault text n p → Fault text n p
-  inNesting : {ts : List Token} {n i p : ℕ} → HasTokens text ts → NestingFault ts n i → TokenAt text ts i p → Fault text n p
+  tooLong : longestText < length text → FaultReserving reserved text 1 longestText
+  inTokens : {n p : ℕ} → length text ≤ longestText → TokenFault text n p → FaultReserving reserved text n p
+  inNesting :
+      {ts : List Token} {n i p : ℕ} → HasTokens text ts → NestingFault ts n i → TokenAt text ts i p → FaultReserving reserved text n p
   inBlocks :
-      {ts : List Token} {n i p : ℕ} → HasTokens text ts → OpenAfter ts [] → BlockFault ts n i → TokenAt text ts i p → Fault text n p
+      {ts : List Token} {n i p : ℕ} → HasTokens text ts → OpenAfter ts [] → BlockFault reserved ts n i → TokenAt text ts i p
+      → FaultReserving reserved text n p
+
+-- The rows above: those in front of 11 in the order of refusals.
+abbrev pub BeforeEleven : ℕ → Type 0
+BeforeEleven n = ((1 ≤ n) × (n ≤ 10)) ⊎ (n ≡ 17)
 
 -- "a text is past checks 1 to 10 when nothing that comes before 11 in the order of refusals holds of it": the text and its tokens.
-pub record Past (text : Bytes) (ts : List Token) : Type 0 where
+pub record PastReserving (reserved : Bytes → Bool) (text : Bytes) (ts : List Token) : Type 0 where
   pub spelled : Spells text ts
-  pub faultless : (n p : ℕ) → Fault text n p → ⊥
+  pub faultless : (n p : ℕ) → FaultReserving reserved text n p → ⊥
+
+-- Document 01 alone reserves no operator.
+abbrev pub noneReserved : Bytes → Bool
+noneReserved m = false
+
+-- 02, §9 reserves three.
+abbrev pub Fault : Bytes → ℕ → ℕ → Type 0
+Fault = FaultReserving isReserved
+
+abbrev pub Past : Bytes → List Token → Type 0
+Past = PastReserving isReserved
+
+-- A declaration of the text: it stands complete in the declaration part of a block, behind nothing but declarations.
+pub record Declares (text : Bytes) (d : Declaration) : Type 0 where
+  pub tokens : List Token
+  pub spelled : Spells text tokens
+  pub table : Table
+  pub number : ℕ
+  pub part : List Token
+  pub block : BlockOf tokens table number part
+  pub before : List Declaration
+  pub after : List Token
+  pub cut : part ≡ allTokens before ++ (declarationTokens d ++ after)
+  pub complete : (areDeclarations before ≡ true) × (isDeclaration d ≡ true)
+
+-- No declaration of the text names a reserved operator.
+abbrev pub Unreserved : Bytes → Type 0
+Unreserved text = (d : Declaration) → Declares text d → Free d

@@ -1,7 +1,7 @@
--- What holds of a call of either service. A service gives a refusal of checks 1 to 11 on; of a text that is read it writes something over
+-- What holds of a call of either service. A service gives a refusal of checks 1 to 11 and 17 on; of a text that is read it writes something over
 -- the buffer, or refuses with a number of its own where that does not fit. What is read is the tree of the text.
 use mathlib.Core.Path.{_≡_, refl, sym, ap, _∙_}
-use mathlib.Core.Logic.{_↔_, _⊎_, inl, inr}
+use mathlib.Core.Logic.{_↔_, _⊎_, inl, inr, ⊎-elim}
 use mathlib.Core.Bool.{Bool, true, false}
 use mathlib.Core.List.{List}
 use Prim.Native.Nat.{ℕ, _≤_, _<_}
@@ -10,13 +10,13 @@ use Rattle.grammar.specs.Bytes.{Bytes}
 use Rattle.grammar.specs.Token.{Token}
 use Rattle.grammar.specs.Outcome.{Outcome, refused, passed}
 use Rattle.grammar.specs.Tree.{Tree}
-use Rattle.grammar.specs.Fault.{Fault, Past}
+use Rattle.grammar.specs.Fault.{BeforeEleven, Fault, Past}
 use Rattle.grammar.specs.Claim.{FirstWithout, TreeOf}
 use Rattle.grammar.specs.Answer.{Reading, Result, readText, over, rejection, success}
 use Rattle.grammar.proofs.Logic.{impossible, clash}
-use Rattle.grammar.proofs.RefusalNumbers.{between-number}
-use Rattle.grammar.proofs.Answers.{read-between}
-use Rattle.grammar.proofs.Faults.{fault-exactly, fault-number}
+use Rattle.grammar.proofs.RefusalNumbers.{OfChecks, numbered-holds}
+use Rattle.grammar.proofs.Answers.{read-numbered}
+use Rattle.grammar.proofs.Faults.{fault-exactly}
 use Rattle.grammar.proofs.Rules.{reading-of, tree-of, eleven-exactly}
 use Rattle.reader.specs.declared.Answer.{Answer}
 use Rattle.reader.specs.Answered.{answerOf, resultOf}
@@ -32,7 +32,7 @@ module _ (own : ℕ) (fits : Reading → Bool) (counted : Reading → ℕ) (cont
         | false ↦ record { answer = rejection own 0; buffer = B }
       ]
 
-  module _ (further : 11 < own) (text : Bytes) (B B′ : List ℕ) (a : Answer) (h : resultOf a B′ ≡ served B (readText text)) where
+  module _ (between : (11 < own) × (own < 17)) (text : Bytes) (B B′ : List ℕ) (a : Answer) (h : resultOf a B′ ≡ served B (readText text)) where
     -- The answer's three numbers and the buffer.
     record Gives (n p c : ℕ) (C : List ℕ) : Type 0 where
       number : a .number ≡ n
@@ -54,7 +54,7 @@ module _ (own : ℕ) (fits : Reading → Bool) (counted : Reading → ℕ) (cont
 
     by-outcome :
         {X : Type 0}
-        → ((n p : ℕ) → readText text ≡ refused n p → 1 ≤ n → n ≤ 11 → Gives n p 0 B → X)
+        → ((n p : ℕ) → readText text ≡ refused n p → OfChecks n → Gives n p 0 B → X)
         → ((r : Reading) → readText text ≡ passed r → fits r ≡ true → Gives 0 0 (counted r) (over (contents r) B) → X)
         → ((r : Reading) → readText text ≡ passed r → fits r ≡ false → Gives own 0 0 B → X)
         → X
@@ -62,74 +62,81 @@ module _ (own : ℕ) (fits : Reading → Bool) (counted : Reading → ℕ) (cont
     by-outcome {X} f g k = go (readText text) refl
       where
         go : (o : Outcome Reading) → readText text ≡ o → X
-        go (refused n p) e =
-            let b = between-number 1 11 (readText text) (read-between text) n p e in
-            f n p e (b .0) (b .1) (gives n p 0 B (rw e))
+        go (refused n p) e = f n p e (numbered-holds OfChecks (readText text) (read-numbered text) n p e) (gives n p 0 B (rw e))
         go (passed r) e = test (fits r) refl
           where
             test : (b : Bool) → fits r ≡ b → X
             test true t = g r e t (gives 0 0 (counted r) (over (contents r) B) (rw e (rw (t, served))))
             test false t = k r e t (gives own 0 0 B (rw e (rw (t, served))))
 
-    -- The answer is 0, a number of checks 1 to 11, or the service's own.
-    number-known : (a .number ≤ 11) ⊎ (a .number ≡ own)
+    -- A number of a check is neither 0 nor the service's own.
+    not-zero : (n : ℕ) → OfChecks n → n ≡ 0 → ⊥
+    not-zero n k z = ⊎-elim (λ l. omega arith) (λ l. omega arith) k
+
+    not-own : (n : ℕ) → OfChecks n → n ≡ own → ⊥
+    not-own n k z = ⊎-elim (λ l. omega arith) (λ l. omega arith) k
+
+    -- The answer is 0, a number of checks 1 to 11 and 17, or the service's own.
+    number-known : (a .number ≤ 11) ⊎ ((a .number ≡ 17) ⊎ (a .number ≡ own))
     number-known =
-        by-outcome (λ n p e l m g. inl (omega (arith, g .number))) (λ r e t g. inl (omega (arith, g .number))) (λ r e t g. inr (g .number))
+        by-outcome (λ n p e k g. ⊎-elim (λ l. inl (omega (arith, g .number))) (λ l. inr (inl (g .number ∙ l))) k)
+        (λ r e t g. inl (omega (arith, g .number))) (λ r e t g. inr (inr (g .number)))
 
     -- A refusal has count 0 and changes nothing.
     refusal-unchanged : (a .number ≡ 0 → ⊥) → (B′ ≡ B) × (a .count ≡ 0)
     refusal-unchanged f =
-        by-outcome (λ n p e l m g. (g .buffer, g .count)) (λ r e t g. absurd (f (g .number))) (λ r e t g. (g .buffer, g .count))
+        by-outcome (λ n p e k g. (g .buffer, g .count)) (λ r e t g. absurd (f (g .number))) (λ r e t g. (g .buffer, g .count))
 
     -- A success, and the service's own refusal, have place 0.
     place-zero : (a .number ≡ 0) ⊎ (a .number ≡ own) → a .offset ≡ 0
-    place-zero w = by-outcome (λ n p e l m g. absurd (neither w n l m (g .number))) (λ r e t g. g .offset) (λ r e t g. g .offset)
-      where
-        neither : (a .number ≡ 0) ⊎ (a .number ≡ own) → (n : ℕ) → 1 ≤ n → n ≤ 11 → a .number ≡ n → ⊥
-        neither (inl z) n l m e = omega arith
-        neither (inr z) n l m e = omega arith
+    place-zero w =
+        by-outcome (λ n p e k g. absurd (⊎-elim (λ z. not-zero n k (sym (g .number) ∙ z)) (λ z. not-own n k (sym (g .number) ∙ z)) w))
+        (λ r e t g. g .offset) (λ r e t g. g .offset)
 
-    -- A refusal of checks 1 to 11 is that of the definition, with its place.
-    refusal-placed : (n p : ℕ) → 1 ≤ n → n ≤ 11 → ((a .number ≡ n) × (a .offset ≡ p)) ↔ (readText text ≡ refused n p)
-    refusal-placed n p l m = (
+    -- A refusal of checks 1 to 11 and 17 is that of the definition, with its place.
+    refusal-placed : (n p : ℕ) → OfChecks n → ((a .number ≡ n) × (a .offset ≡ p)) ↔ (readText text ≡ refused n p)
+    refusal-placed n p b = (
       λ z.
-          by-outcome (λ k q e i j g. rw (sym (g .number) ∙ z .0, sym (g .offset) ∙ z .1) at e)
-          (λ r e t g. absurd (omega (arith, g .number, z .0)))
-          (λ r e t g. absurd (omega (arith, g .number, z .0))),
+          by-outcome (λ k q e i g. rw (sym (g .number) ∙ z .0, sym (g .offset) ∙ z .1) at e)
+          (λ r e t g. absurd (not-zero n b (sym (z .0) ∙ g .number)))
+          (λ r e t g. absurd (not-own n b (sym (z .0) ∙ g .number))),
       λ w.
-          by-outcome (λ k q e i j g. let x : refused k q ≡ refused n p = sym e ∙ w in (g .number ∙ cc, g .offset ∙ cc))
+          by-outcome (λ k q e i g. let x : refused k q ≡ refused n p = sym e ∙ w in (g .number ∙ cc, g .offset ∙ cc))
           (λ r e t g. let x = sym e ∙ w in impossible cc)
           (λ r e t g. let x = sym e ∙ w in impossible cc),
     )
 
-    -- Rows 1 to 10.
-    faults : (n p : ℕ) → ((a .number ≡ n) × (a .offset ≡ p) × (1 ≤ n) × (n ≤ 10)) ↔ Fault text n p
+    -- Rows 1 to 10 and 17.
+    among-checks : (n : ℕ) → BeforeEleven n → OfChecks n
+    among-checks n b = ⊎-elim (λ l. inl (omega arith)) inr b
+
+    faults : (n p : ℕ) → ((a .number ≡ n) × (a .offset ≡ p) × BeforeEleven n) ↔ Fault text n p
     faults n p = (
-      λ (z, o, l, m). fault-exactly text n p .0 (refusal-placed n p l (omega arith) .0 (z, o), m),
+      λ (z, o, b). fault-exactly text n p .0 (refusal-placed n p (among-checks n b) .0 (z, o), b),
       λ f.
-          let (l, m) = fault-number text n p f in
-          let (z, o) = refusal-placed n p l (omega arith) .1 (fault-exactly text n p .1 f .0) in
-          (z, o, l, m),
+          let (e, b) = fault-exactly text n p .1 f in
+          let (z, o) = refusal-placed n p (among-checks n b) .1 e in
+          (z, o, b),
     )
 
     -- 11.
     eleven : (p : ℕ) → ((a .number ≡ 11) × (a .offset ≡ p)) ↔ ((ts : List Token) × Past text ts × FirstWithout text ts p)
     eleven p =
         let e = eleven-exactly text p in
-        let r = refusal-placed 11 p (omega arith) (omega arith) in
+        let r = refusal-placed 11 p (inl (omega arith)) in
         (λ z. e .0 (r .0 z), λ w. r .1 (e .1 w))
 
     -- A success writes what is read; what is read is a tree of the text.
     pub success-reads :
         a .number ≡ 0 → (r : Reading) × (readText text ≡ passed r) × (fits r ≡ true) × (a .count ≡ counted r) × (B′ ≡ over (contents r) B)
     success-reads z =
-        by-outcome (λ n p e l m g. absurd (omega (arith, g .number, z))) (λ r e t g. (r, e, t, g .count, g .buffer))
+        by-outcome (λ n p e k g. absurd (not-zero n k (sym (g .number) ∙ z))) (λ r e t g. (r, e, t, g .count, g .buffer))
         (λ r e t g. absurd (omega (arith, g .number, z)))
 
     -- A reading that fits, or does not.
     tested : (r : Reading) → readText text ≡ passed r → ((fits r ≡ true) × (a .number ≡ 0)) ⊎ ((fits r ≡ false) × (a .number ≡ own))
     tested r e =
-        by-outcome (λ n p f l m g. let x = sym e ∙ f in impossible cc)
+        by-outcome (λ n p f k g. let x = sym e ∙ f in impossible cc)
         (λ q f t g. let x : passed r ≡ passed q = sym e ∙ f in let s : r ≡ q = cc in inl (ap fits s ∙ t, g .number))
         (λ q f t g. let x : passed r ≡ passed q = sym e ∙ f in let s : r ≡ q = cc in inr (ap fits s ∙ t, g .number))
 
@@ -150,7 +157,7 @@ module _ (own : ℕ) (fits : Reading → Bool) (counted : Reading → ℕ) (cont
       own-exactly : (a .number ≡ own) ↔ ((t : Tree) × TreeOf text t × (Fits t → ⊥))
       own-exactly = (
         λ z.
-            by-outcome (λ n p e l m g. absurd (omega (arith, g .number, z))) (λ r e t g. absurd (omega (arith, g .number, z)))
+            by-outcome (λ n p e k g. absurd (not-own n k (sym (g .number) ∙ z))) (λ r e t g. absurd (omega (arith, g .number, z)))
             (λ r e t g. (r .tree, reading-of text r e, λ f. clash (same r .1 f) t)),
         λ (t, h, n). let (r, e, q) = tree-of text t h in failing r (λ f. n (rw q at f)) (tested r e),
       )

@@ -12,6 +12,7 @@ use lib.Seq.{take-append-seam, drop-append-seam}
 use borrow.Author.Tests.{leb-true, le-leb}
 use Rattle.grammar.specs.Bytes.{Bytes}
 use Rattle.grammar.specs.Outcome.{Outcome, refused, passed}
+use Rattle.grammar.specs.Declaration.{isReserved}
 use Rattle.grammar.specs.Tree.{Tree}
 use Rattle.grammar.specs.Abstract.{Agree}
 use Rattle.grammar.specs.Fault.{longestText}
@@ -22,7 +23,7 @@ use Rattle.grammar.proofs.Logic.{and-left, and-right, and-intro}
 use Rattle.grammar.proofs.Rules.{reading-of, same-tree, canonical-read, canonical-same}
 use Rattle.reader.specs.declared.Answer.{Answer}
 use Rattle.reader.specs.Answered.{resultOf, Reads, Canonicalizes}
-use Rattle.reader.specs.Demands.{RightAnswer, TableFits, BufferFits, TableHolds, BufferHolds}
+use Rattle.reader.specs.Demands.{RightAnswer, TableFits, BufferFits, TableHolds, BufferHolds, RightCanonical}
 use Rattle.reader.proofs.Calls as Calls
 use Rattle.reader.proofs.Calls.{served}
 use Rattle.reader.proofs.ReadCalls as ReadCalls
@@ -72,6 +73,10 @@ written text B B′ a h z t i =
       text = ap₂ take c w ∙ take-append-seam s (drop (length s) B);
       behind = ap₂ drop c w ∙ drop-append-seam s (drop (length s) B) ∙ ap (λ n. drop n B) (sym c);
     })
+
+-- All that is asked of it.
+pub right : (text : Bytes) (B B′ : List ℕ) (a : Answer) → Canonicalizes text B B′ a → RightCanonical isReserved text B B′ a
+right text B B′ a h = record { answers = answers text B B′ a h; held = written text B B′ a h }
 
 pub reads-back :
     (text : Bytes) (B B′ : List ℕ) (a : Answer) → Canonicalizes text B B′ a → a .number ≡ 0 → (t : Tree) → TreeOf text t

@@ -1,45 +1,50 @@
 -- The three demands, of every call. `Reads text N N′ a` is the promise of `read`: `a` is its answer, `N` the node table before the call, `N′`
 -- after it; `Canonicalizes text B B′ a` is that of `canonicalize`, with the buffer `B`. Every call meets them, and there is nothing that a
 -- caller has to see to. That every call ends and nothing undefined happens is part of each function's proof.
--- `Fault text n p`: row n of document 01's table holds of the text at the place p, and none earlier in its order. `Past text ts`: no row from
--- 1 to 10 does, and the text spells the tokens ts. `TreeOf text t`: t is a tree of the text, which is past them.
+-- `Fault text n p`: row n of document 01's table, or 17 of document 02, §9, holds of the text at the place p, and none earlier in the order.
+-- `Past text ts`: no row from 1 to 10 does, nor 17, and the text spells the tokens ts. `TreeOf text t`: t is a tree of the text, which is past
+-- them. "Checks 1 to 10" are those with 17 among them.
 use mathlib.Core.Path.{_≡_}
 use mathlib.Core.Logic.{_↔_}
 use mathlib.Core.Bool.{true}
 use mathlib.Core.List.{List}
 use Prim.Native.Nat.{ℕ, _≤_}
+use native.Mathlib.Omega.{arith}
 use lib.ListN.{length, take}
 use Rattle.grammar.specs.Bytes.{Bytes}
 use Rattle.grammar.specs.Token.{Token, isNumber}
-use Rattle.grammar.specs.Operator.{Fixity, Associativity, Table, Conditions}
-use Rattle.grammar.specs.Declaration.{declares, startTable, value}
+use Rattle.grammar.specs.Operator.{Fixity, Associativity, Table, role, Conditions}
+use Rattle.grammar.specs.Declaration.{declares, startTable, isReserved, value}
+use Rattle.grammar.specs.Spans.{Span, SpanOf}
 use Rattle.grammar.specs.SpanTree.{SpanTree, Admitted, root, rootPrecedence, yield}
 use Rattle.grammar.specs.Tree.{Tree, IsTree}
 use Rattle.grammar.specs.Widest.{widest}
 use Rattle.grammar.specs.Abstract.{Agree}
 use Rattle.grammar.specs.Canonical.{strip, stripDeclaration}
-use Rattle.grammar.specs.Fault.{longestText, Fault, Past}
+use Rattle.grammar.specs.Fault.{longestText, Fault, Past, noneReserved, Unreserved}
 use Rattle.grammar.specs.Claim.{BlocksLawful, FirstWithout, TreeOf, canonicalTree, canonicalBytes, Faithful}
 use Rattle.grammar.proofs.Numbers as Numbers
 use Rattle.grammar.proofs.StripDeclarations as StripDeclarations
 use Rattle.grammar.proofs.WidestRoot.{root-widest}
 use Rattle.grammar.proofs.Faults as Faults
 use Rattle.grammar.proofs.Rules as Rules
+use Rattle.grammar.proofs.ReservedRoles as ReservedRoles
 use Rattle.reader.specs.declared.Answer.{Answer}
 use Rattle.reader.specs.Answered.{Reads, Canonicalizes}
-use Rattle.reader.specs.Demands.{RightAnswer, TableFits, BufferFits, TableHolds, BufferHolds}
+use Rattle.reader.specs.Demands.{RightAnswer, TableFits, BufferFits, TableHolds, BufferHolds, RightReading, RightCanonical}
 use Rattle.reader.proofs.ReadCalls as ReadCalls
 use Rattle.reader.proofs.CanonicalCalls as CanonicalCalls
+use Rattle.reader.proofs.Settled.{table-settled, buffer-settled, settled, right-alike}
 
--- Demand 1. Whatever bytes come in: a reading, or one of the numbered refusals with its place, each exactly where document 01 calls for it; a
--- refusal changes no word or byte of the lent buffers.
+-- Demand 1. Whatever bytes come in: a reading, or one of the numbered refusals with its place, each exactly where documents 01 and 02 call for it;
+-- a refusal changes no word or byte of the lent buffers.
 pub read-answers : (text : Bytes) (N N′ : List ℕ) (a : Answer) → Reads text N N′ a → RightAnswer 12 (TableFits N) text N N′ a
 read-answers = ReadCalls.answers
 
 pub canonicalize-answers : (text : Bytes) (B B′ : List ℕ) (a : Answer) → Canonicalizes text B B′ a → RightAnswer 13 (BufferFits B) text B B′ a
 canonicalize-answers = CanonicalCalls.answers
 
--- At most one of the rows 1 to 10 holds of a text, at one place.
+-- At most one of the rows 1 to 10 and 17 holds of a text, at one place.
 pub one-fault : (text : Bytes) (n m p q : ℕ) → Fault text n p → Fault text m q → (n ≡ m) × (p ≡ q)
 one-fault = Faults.fault-unique
 
@@ -49,7 +54,7 @@ pub tree-held :
     (text : Bytes) (N N′ : List ℕ) (a : Answer) → Reads text N N′ a → a .number ≡ 0 → (t : Tree) → TreeOf text t → TableHolds text N N′ (a .count) t
 tree-held = ReadCalls.tree-held
 
--- Every block of a tree of a text has allowed declarations and operators that meet the four conditions.
+-- Every block of a tree of a text has allowed declarations, none of a reserved operator, and operators that meet the four conditions.
 pub blocks-lawful : (text : Bytes) (t : Tree) → TreeOf text t → BlocksLawful startTable t
 blocks-lawful = Rules.tree-lawful
 
@@ -57,6 +62,15 @@ blocks-lawful = Rules.tree-lawful
 pub canonical-written :
     (text : Bytes) (B B′ : List ℕ) (a : Answer) → Canonicalizes text B B′ a → a .number ≡ 0 → (t : Tree) → TreeOf text t → BufferHolds B B′ (a .count) t
 canonical-written = CanonicalCalls.written
+
+-- Demands 1 and 2 settle the answer and every word and byte: whatever else meets them is the same.
+pub read-settled :
+    (text : Bytes) (N N′ N″ : List ℕ) (a b : Answer) → Reads text N N′ a → RightReading isReserved text N N″ b → (a ≡ b) × (N′ ≡ N″)
+read-settled text N N′ N″ a b h g = settled (ReadCalls.right text N N′ a h) g (omega arith) (table-settled text N)
+
+pub canonicalize-settled :
+    (text : Bytes) (B B′ B″ : List ℕ) (a b : Answer) → Canonicalizes text B B′ a → RightCanonical isReserved text B B″ b → (a ≡ b) × (B′ ≡ B″)
+canonicalize-settled text B B′ B″ a b h g = settled (CanonicalCalls.right text B B′ a h) g (omega arith) (buffer-settled B)
 
 -- It reads back to the canonical tree, with every table that is long enough for that tree, ..
 pub canonical-reads-back :
@@ -97,6 +111,29 @@ pub same-precedences :
     (f : Fixity) (a : Associativity) (m d e : Bytes) → isNumber d ≡ true → isNumber e ≡ true
     → (value d ≡ value e) ↔ (stripDeclaration (declares f a d m) ≡ stripDeclaration (declares f a e m))
 same-precedences = StripDeclarations.same-precedences
+
+-- Document 02, §9: "Every reading made before without such a block is still the reading". Where no declaration of the text names a reserved
+-- operator, the answer and the buffer are those of a reader without the rule: all that is asked of one where none is reserved holds of the
+-- call, and nothing else meets it.
+pub read-as-before :
+    (text : Bytes) → Unreserved text → (N N′ : List ℕ) (a : Answer) → Reads text N N′ a
+    → RightReading noneReserved text N N′ a × ((N″ : List ℕ) (b : Answer) → RightReading noneReserved text N N″ b → (a ≡ b) × (N′ ≡ N″))
+read-as-before text free N N′ a h =
+    let before = right-alike isReserved noneReserved text free (ReadCalls.right text N N′ a h) in
+    (before, λ N″ b g. settled before g (omega arith) (table-settled text N))
+
+pub canonicalize-as-before :
+    (text : Bytes) → Unreserved text → (B B′ : List ℕ) (a : Answer) → Canonicalizes text B B′ a
+    → RightCanonical noneReserved text B B′ a × ((B″ : List ℕ) (b : Answer) → RightCanonical noneReserved text B B″ b → (a ≡ b) × (B′ ≡ B″))
+canonicalize-as-before text free B B′ a h =
+    let before = right-alike isReserved noneReserved text free (CanonicalCalls.right text B B′ a h) in
+    (before, λ B″ b g. settled before g (omega arith) (buffer-settled B))
+
+-- In every span, and so in every block, `and`, `or` and `not` have the roles that they start with.
+pub reserved-roles :
+    (m : Bytes) → isReserved m ≡ true → (f : Fixity) (text : Bytes) (ts : List Token) → Past text ts → (s : Span) → SpanOf ts s
+    → role (s .table) m f ≡ role startTable m f
+reserved-roles = ReservedRoles.reserved-roles
 
 -- That the root has the widest precedence follows and is not asked besides.
 pub widest-root : (T : Table) → Conditions T → (s : SpanTree) → Admitted T s → rootPrecedence (root T s) ≡ widest T (yield s)

@@ -6,4 +6,5 @@ pub mod NodeCharacters
 pub mod Calls
 pub mod ReadCalls
 pub mod CanonicalCalls
+pub mod Settled
 pub mod Claims

@@ -10,6 +10,7 @@ use lib.Seq.{take-append-seam, drop-append-seam}
 use borrow.Author.Tests.{leb-true, le-leb}
 use Rattle.grammar.specs.Bytes.{Bytes}
 use Rattle.grammar.specs.Outcome.{Outcome, refused, passed}
+use Rattle.grammar.specs.Declaration.{isReserved}
 use Rattle.grammar.specs.Tree.{Tree}
 use Rattle.grammar.specs.Nodes.{count, wordsPerNode}
 use Rattle.grammar.specs.Decoding.{decode, Ordered, Together}
@@ -25,7 +26,7 @@ use Rattle.grammar.proofs.Decoding.{decode-tree, nodes-ordered, subtree-togethe
 use Rattle.grammar.proofs.Rules.{reading-of, same-tree}
 use Rattle.reader.specs.declared.Answer.{Answer}
 use Rattle.reader.specs.Answered.{resultOf, Reads}
-use Rattle.reader.specs.Demands.{RightAnswer, TableFits, TableHolds}
+use Rattle.reader.specs.Demands.{RightAnswer, TableFits, TableHolds, RightReading}
 use Rattle.reader.proofs.NodeCharacters as NodeCharacters
 use Rattle.reader.proofs.Calls as Calls
 use Rattle.reader.proofs.Calls.{served}
@@ -86,3 +87,7 @@ tree-held text N N′ a h z t i =
     Calls.success-reads 12 (tableFits N) nodesOf (readingWords text) (omega arith) text N N′ a (reading text N N′ a h) z in
     let same : r .tree ≡ t = same-tree text (r .tree) t (reading-of text r e) i in
     rw c (subst (λ u. TableHolds text N N′ (count (r .tree)) u) same (reading-holds text N N′ r e w))
+
+-- All that is asked of it.
+pub right : (text : Bytes) (N N′ : List ℕ) (a : Answer) → Reads text N N′ a → RightReading isReserved text N N′ a
+right text N N′ a h = record { answers = answers text N N′ a h; held = tree-held text N N′ a h }

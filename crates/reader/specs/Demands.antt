@@ -1,37 +1,44 @@
 -- What the claims say of a call, in the terms of document 01.
 use mathlib.Core.Path.{_≡_}
 use mathlib.Core.Logic.{_↔_, _⊎_}
+use mathlib.Core.Bool.{Bool}
 use mathlib.Core.List.{List}
 use mathlib.Core.Option.{none, some}
 use Prim.Native.Nat.{ℕ, pred, _*_, _≤_, _<_}
 use lib.ListN.{length, take, drop, getD}
 use Rattle.grammar.specs.Bytes.{Bytes}
 use Rattle.grammar.specs.Token.{Token}
-use Rattle.grammar.specs.Declaration.{Declaration}
+use Rattle.grammar.specs.Declaration.{Declaration, isReserved}
 use Rattle.grammar.specs.Spelling.{TokenAt}
 use Rattle.grammar.specs.Tree.{Tree, flat}
 use Rattle.grammar.specs.Nodes.{count, words, wordsPerNode}
-use Rattle.grammar.specs.Fault.{longestText, Fault, Past}
+use Rattle.grammar.specs.Fault.{longestText, BeforeEleven, FaultReserving, PastReserving}
 use Rattle.grammar.specs.Decoding.{decode, Ordered, Together}
-use Rattle.grammar.specs.Claim.{nodeNames, nodeBlocks, FromLetToIn, FirstWithout, TreeOf, canonicalBytes}
+use Rattle.grammar.specs.Claim.{nodeNames, nodeBlocks, FromLetToIn, FirstWithout, TreeReserving, canonicalBytes}
 use Rattle.reader.specs.declared.Answer.{Answer}
 use Rattle.reader.specs.Answered.{nodeCharacters}
 
 -- Demand 1, of a service whose own refusal has the number `own` and is given where a tree does not fit. `B` is the lent buffer before the
--- call, `B′` after it.
-pub record RightAnswer (own : ℕ) (Fits : Tree → Type 0) (text : Bytes) (B B′ : List ℕ) (a : Answer) : Type 0 where
+-- call, `B′` after it. Which operators are reserved (document 02, §9) is a parameter.
+pub record RightAnswerReserving
+    (reserved : Bytes → Bool) (own : ℕ) (Fits : Tree → Type 0) (text : Bytes) (B B′ : List ℕ) (a : Answer)
+  : Type 0 where
   -- There is no other number.
-  pub known : (a .number ≤ 11) ⊎ (a .number ≡ own)
-  -- Rows 1 to 10, and only these, where document 01 calls for them.
-  pub faults : (n p : ℕ) → ((a .number ≡ n) × (a .offset ≡ p) × (1 ≤ n) × (n ≤ 10)) ↔ Fault text n p
+  pub known : (a .number ≤ 11) ⊎ ((a .number ≡ 17) ⊎ (a .number ≡ own))
+  -- Rows 1 to 10 and 17, and only these, where documents 01 and 02 call for them.
+  pub faults : (n p : ℕ) → ((a .number ≡ n) × (a .offset ≡ p) × BeforeEleven n) ↔ FaultReserving reserved text n p
   -- "11: span without a tree: 0, the `(`, or the `in`"
-  pub eleven : (p : ℕ) → ((a .number ≡ 11) × (a .offset ≡ p)) ↔ ((ts : List Token) × Past text ts × FirstWithout text ts p)
+  pub eleven :
+      (p : ℕ) → ((a .number ≡ 11) × (a .offset ≡ p)) ↔ ((ts : List Token) × PastReserving reserved text ts × FirstWithout text ts p)
   -- Number 0 exactly where there is a tree and it fits, the own number exactly where there is one and it does not; both have place 0.
-  pub success : (a .number ≡ 0) ↔ ((t : Tree) × TreeOf text t × Fits t)
-  pub tooShort : (a .number ≡ own) ↔ ((t : Tree) × TreeOf text t × (Fits t → ⊥))
+  pub success : (a .number ≡ 0) ↔ ((t : Tree) × TreeReserving reserved text t × Fits t)
+  pub tooShort : (a .number ≡ own) ↔ ((t : Tree) × TreeReserving reserved text t × (Fits t → ⊥))
   pub placeZero : (a .number ≡ 0) ⊎ (a .number ≡ own) → a .offset ≡ 0
   -- "Refused: count 0, buffers unchanged."
   pub unchanged : (a .number ≡ 0 → ⊥) → (B′ ≡ B) × (a .count ≡ 0)
+
+abbrev pub RightAnswer : ℕ → (Tree → Type 0) → Bytes → List ℕ → List ℕ → Answer → Type 0
+RightAnswer = RightAnswerReserving isReserved
 
 -- "12: reading: node table too short"
 abbrev pub TableFits : List ℕ → Tree → Type 0
@@ -65,3 +72,17 @@ pub record BufferHolds (B B′ : List ℕ) (c : ℕ) (t : Tree) : Type 0 where
   pub text : take c B′ ≡ canonicalBytes t
   -- "Bytes of the buffer past the tidy text keep their contents."
   pub behind : drop c B′ ≡ drop c B
+
+-- All that is asked of a call: the answer, and that the buffer holds the tree of a text that is read.
+pub record Right
+    (reserved : Bytes → Bool) (own : ℕ) (Fits : Tree → Type 0) (Holds : List ℕ → ℕ → Tree → Type 0) (text : Bytes) (B B′ : List ℕ) (a : Answer)
+  : Type 0 where
+  pub answers : RightAnswerReserving reserved own Fits text B B′ a
+  pub held : a .number ≡ 0 → (t : Tree) → TreeReserving reserved text t → Holds B′ (a .count) t
+
+-- Of a call of `read`, and of one of `canonicalize`.
+abbrev pub RightReading : (Bytes → Bool) → Bytes → List ℕ → List ℕ → Answer → Type 0
+RightReading reserved text N N′ a = Right reserved 12 (TableFits N) (TableHolds text N) text N N′ a
+
+abbrev pub RightCanonical : (Bytes → Bool) → Bytes → List ℕ → List ℕ → Answer → Type 0
+RightCanonical reserved text B B′ a = Right reserved 13 (BufferFits B) (BufferHolds B) text B B′ a

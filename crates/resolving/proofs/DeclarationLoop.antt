@@ -18,7 +18,7 @@ use Rattle.grammar.specs.Answer.{offsetOf}
 use Rattle.grammar.specs.Operator.{declareRole, removeRoles, lawfulTable}
 use Rattle.grammar.specs.Operator as G
 use Rattle.grammar.specs.Coded.{kindOf, fixityOf}
-use Rattle.grammar.specs.Declaration.{declaration, mostOperators, enter}
+use Rattle.grammar.specs.Declaration.{declaration, isReserved, mostOperators, enter}
 use Rattle.grammar.specs.Blocks.{bodyTable, checkBlocks}
 use Rattle.grammar.proofs.Declarations.{enter-sound}
 use Rattle.rows.specs.Fields.{kind, start, size, Holds}
@@ -179,13 +179,19 @@ module _
     pub unfit-stops : at < c → (m : ℕ) → Parses K at (declaration (range text K at c)) (Unfit m) → answer text K T i c ≡ refused 8 m
     unfit-stops l m s = inv .answered ∙ unfit-at text K c (inv .placed) (inv .stored) (inv .within) at l operators m s
 
-    -- A declaration is passed over: the operators are those that it leaves in force.
+    -- A declaration of a reserved operator.
+    reserved-stops :
+        {change : G.Table → G.Table} {k n : ℕ} → DeclarationAt text K c (inv .placed) at change k n
+        → isReserved (charactersOf text K (at + k)) ≡ true → answer text K T i c ≡ refused 17 (at + k)
+    reserved-stops step r = inv .answered ∙ step .reserves operators r
+
+    -- Another declaration is passed over: the operators are those that it leaves in force.
     passed-over :
-        {change : G.Table → G.Table} {k n : ℕ} → DeclarationAt text K c (inv .placed) at change k n → (u : Table) → Sound text u
-        → tableOf text u ≡ change operators → (still : Bool) → (still ≡ true → lawfulTable (tableOf text u) ≡ true)
+        {change : G.Table → G.Table} {k n : ℕ} → DeclarationAt text K c (inv .placed) at change k n
+        → isReserved (charactersOf text K (at + k)) ≡ false → (u : Table) → Sound text u → tableOf text u ≡ change operators → (still : Bool) → (still ≡ true → lawfulTable (tableOf text u) ≡ true)
         → {next : ℕ} → next ≡ nextPlace text (nextPlace text (start K (at + k)) (size K (at + k))) 1
         → Entering text K T i c u still next (at + n)
-    passed-over {n = n} step u s e still m b =
+    passed-over {n = n} step free u s e still m b =
         let low = inv .low in
         let few = s .sized in
         let counted = table-count text u in
@@ -202,7 +208,7 @@ module _
           meets = m;
           begins = b ∙ step .behind;
           answered =
-              inv .answered ∙ step .passes operators (omega arith) ∙ ap (λ U. entered text K c U (at + n)) (sym e);
+              inv .answered ∙ step .passes operators free (omega arith) ∙ ap (λ U. entered text K c U (at + n)) (sym e);
         }
 
     -- A role for the operator at token `at + 3`, for which there is room or not.
@@ -222,8 +228,11 @@ module _
       pub role-places : (o ≤ 65535) × (n ≤ 65535) × (nextPlace text o n ≤ 65535)
       role-places = name-places there (role .step .isSymbol) (role .stands) b
 
-      -- What is found of its name.
-      module _ (found : Found) (looked : found ≡ codedFind text (t .words) name 0 (t .count)) where
+      pub role-reserved : isReserved name ≡ true → answer text K T i c ≡ refused 17 (at + 3)
+      role-reserved r = reserved-stops (role .step) (rw is-characters at r)
+
+      -- What is found of its name, which is not reserved.
+      module _ (free : isReserved name ≡ false) (found : Found) (looked : found ≡ codedFind text (t .words) name 0 (t .count)) where
         pub overfull : isFull (t .count) found ≡ true → answer text K T i c ≡ refused 9 (at + 3)
         unfolding isFull
         overfull = go found refl
@@ -233,7 +242,7 @@ module _
             go Nothing e z =
                 let many = unfound-count text t name (sym looked ∙ e) (fixityOf f) (role .declared) in
                 let full = leb-true mostOperators (t .count) z in
-                inv .answered ∙ role .step .refuses operators (rw (← is-characters) (omega arith))
+                inv .answered ∙ role .step .refuses operators (rw is-characters at free) (rw (← is-characters) (omega arith))
 
         pub declarable : {hash : ℕ} → (hash ≡ hashOf name) × (hash < 128) → isFull (t .count) found ≡ false → Declarable text t found o n hash f code
         unfolding isFull
@@ -255,7 +264,7 @@ module _
             → {next : ℕ} → next ≡ nextPlace text (nextPlace text o n) 1 → Entering text K T i c u still next (at + 5)
         declared-over u d still m e =
             let table = d .table (role .declared) (role .coded) in
-            passed-over (role .step) u (d .sound) (table ∙ ap (λ w. declareRole w (fixityOf f) (role .declared) operators) is-characters) still
+            passed-over (role .step) (rw is-characters at free) u (d .sound) (table ∙ ap (λ w. declareRole w (fixityOf f) (role .declared) operators) is-characters) still
             (λ z. rw table
             (declared-lawful name (fixityOf f) (role .declared) operators (inv .meets (m z .0))
             (unfound-role text t name (sym looked ∙ new-found found (m z .1)))))
@@ -266,18 +275,23 @@ module _
       behind : at + 1 < length (inv .placed)
       behind = omega (arith, clears .step .within, inv .within)
 
+      cleared-characters : take n (drop o text) ≡ charactersOf text K (at + 1)
+      cleared-characters = name-characters behind (clears .step .isSymbol) (clears .stands) b
+
       pub cleared-name : IsName (take n (drop o text))
       cleared-name = is-name behind (clears .step .isSymbol) (clears .stands) b
 
       pub cleared-places : (o ≤ 65535) × (n ≤ 65535) × (nextPlace text o n ≤ 65535)
       cleared-places = name-places behind (clears .step .isSymbol) (clears .stands) b
 
+      pub cleared-reserved : isReserved (take n (drop o text)) ≡ true → answer text K T i c ≡ refused 17 (at + 1)
+      cleared-reserved r = reserved-stops (clears .step) (rw cleared-characters at r)
+
       pub cleared-over :
-          (u : Table) → Cleared text t (take n (drop o text)) u → {next : ℕ} → next ≡ nextPlace text (nextPlace text o n) 1
-          → Entering text K T i c u lawful next (at + 3)
-      cleared-over u d e =
-          passed-over (clears .step) u (d .sound)
-          (d .table ∙ ap (λ w. removeRoles w operators) (name-characters behind (clears .step .isSymbol) (clears .stands) b)) lawful
+          isReserved (take n (drop o text)) ≡ false → (u : Table) → Cleared text t (take n (drop o text)) u
+          → {next : ℕ} → next ≡ nextPlace text (nextPlace text o n) 1 → Entering text K T i c u lawful next (at + 3)
+      cleared-over free u d e =
+          passed-over (clears .step) (rw cleared-characters at free) u (d .sound) (d .table ∙ ap (λ w. removeRoles w operators) cleared-characters) lawful
           (λ z. rw (d .table) (cleared-lawful _ operators (inv .meets z)))
           (e ∙ ap₂ (λ p s. nextPlace text (nextPlace text p s) 1) (clears .stands) b)
 

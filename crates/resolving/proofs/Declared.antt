@@ -31,6 +31,8 @@ use Rattle.grammar.specs.Declaration.{
   parsed,
   declaration,
   operatorPlace,
+  operatorOf,
+  isReserved,
   mostOperators,
   widestPrecedence,
   hasRoom,
@@ -39,7 +41,7 @@ use Rattle.grammar.specs.Declaration.{
 }
 use Rattle.grammar.specs.Declaration as D
 use Rattle.grammar.proofs.Logic.{impossible, and-left, and-right}
-use Rattle.grammar.proofs.Declarations.{declaration-sound, enter-end, enter-step}
+use Rattle.grammar.proofs.Declarations.{declaration-sound, enter-end, enter-reserved, enter-step}
 use Rattle.grammar.proofs.EnterBehind.{enter-fuel, enter-unfit}
 use Rattle.rows.specs.Fields.{kind, start, size}
 use Rattle.rows.specs.Codes.{sideCode, roleCode, roleOf, IsRole}
@@ -82,20 +84,16 @@ fixity-back Infix = refl
 fixity-back Postfix = refl
 
 -- The tokens of a declaration end with its operator and a `;`.
-nameOf : Declaration → Bytes
-nameOf (declares f a d m) = m
-nameOf (clears m) = m
-
 module _ (d : Declaration) where
   operator-second : length (declarationTokens d) ≡ suc (suc (operatorPlace d))
   unfolding declarationTokens operatorPlace
   operator-second = elim d as (λ d. length (declarationTokens d) ≡ suc (suc (operatorPlace d))) [ declares f a v m ↦ refl | clears m ↦ refl ]
 
   module _ (rest : List Token) where
-    operator-token : getD (declarationTokens d ++ rest) (operatorPlace d) (structure semicolon) ≡ atom (symbol (nameOf d))
-    unfolding declarationTokens operatorPlace nameOf
+    operator-token : getD (declarationTokens d ++ rest) (operatorPlace d) (structure semicolon) ≡ atom (symbol (operatorOf d))
+    unfolding declarationTokens operatorPlace operatorOf
     operator-token =
-        elim d as (λ d. getD (declarationTokens d ++ rest) (operatorPlace d) (structure semicolon) ≡ atom (symbol (nameOf d))) [
+        elim d as (λ d. getD (declarationTokens d ++ rest) (operatorPlace d) (structure semicolon) ≡ atom (symbol (operatorOf d))) [
           | declares f a v m ↦ refl
           | clears m ↦ refl
         ]
@@ -133,8 +131,13 @@ module _ (text : Bytes) (K : List ℕ) (to : ℕ) where
     pub within : at + n ≤ to
     pub isSymbol : kind K (at + place) ≡ 1
     pub behind : nextPlace text (nextPlace text (start K (at + place)) (size K (at + place))) 1 ≡ offsetOf text ps (at + n)
-    pub refuses : (T : Table) → mostOperators < length (change T) → entered T at ≡ refused 9 (at + place)
-    pub passes : (T : Table) → length (change T) ≤ mostOperators → entered T at ≡ entered (change T) (at + n)
+    pub reserves : (T : Table) → isReserved (charactersOf text K (at + place)) ≡ true → entered T at ≡ refused 17 (at + place)
+    pub refuses :
+        (T : Table) → isReserved (charactersOf text K (at + place)) ≡ false → mostOperators < length (change T)
+        → entered T at ≡ refused 9 (at + place)
+    pub passes :
+        (T : Table) → isReserved (charactersOf text K (at + place)) ≡ false → length (change T) ≤ mostOperators
+        → entered T at ≡ entered (change T) (at + n)
 
   module _ (ps : List Placed) (v : Stored text ps K) (h : to < length ps) (at : ℕ) (l : at < to) where
     module _ (d : Declaration) (rest : List Token) (e : declaration (range text K at to) ≡ parsed d rest) where
@@ -159,7 +162,7 @@ module _ (text : Bytes) (K : List ℕ) (to : ℕ) where
       token-at : (j : ℕ) → at + j < to → tokenIn text K (at + j) ≡ getD (declarationTokens d ++ rest) j (structure semicolon)
       token-at j k = sym (range-token text K at to j (structure semicolon) k) ∙ ap (λ ts. getD ts j (structure semicolon)) tokens
 
-      named : tokenIn text K (at + place) ≡ atom (symbol (nameOf d))
+      named : tokenIn text K (at + place) ≡ atom (symbol (operatorOf d))
       named = token-at place (omega (arith, within, operator-second d)) ∙ operator-token d rest
 
       closed : tokenIn text K (suc (at + place)) ≡ structure semicolon
@@ -168,11 +171,11 @@ module _ (text : Bytes) (K : List ℕ) (to : ℕ) where
           ∙ token-at (suc place) (omega (arith, within, operator-second d))
           ∙ semicolon-token d rest
 
-      operator-name : charactersOf text K (at + place) ≡ nameOf d
-      operator-name = symbol-name v (at + place) (omega (arith, within, operator-second d)) (nameOf d) named
+      operator-name : charactersOf text K (at + place) ≡ operatorOf d
+      operator-name = symbol-name v (at + place) (omega (arith, within, operator-second d)) (operatorOf d) named
 
       operator-kind : kind K (at + place) ≡ 1
-      operator-kind = symbol-kind v (at + place) (omega (arith, within, operator-second d)) (nameOf d) named
+      operator-kind = symbol-kind v (at + place) (omega (arith, within, operator-second d)) (operatorOf d) named
 
       next-begins : nextPlace text (nextPlace text (start K (at + place)) (size K (at + place))) 1 ≡ offsetOf text ps (at + n)
       unfolding structureNumber structureSize
@@ -188,15 +191,21 @@ module _ (text : Bytes) (K : List ℕ) (to : ℕ) where
           ∙ begins-behind v (suc (at + place)) b (λ x y. omega (arith, z .0)) (sym (z .1))
           ∙ ap (offsetOf text ps) (omega arith)
 
+      -- The checks at this declaration, by the characters of its operator.
+      fuelled : (T : Table) → entered T at ≡ enter (suc (to - suc at)) T at (range text K at to)
+      fuelled T = let k : to - at ≡ suc (to - suc at) = omega arith in ap (λ k. enter k T at (range text K at to)) k
+
+      reserved-step : (T : Table) → isReserved (charactersOf text K (at + place)) ≡ true → entered T at ≡ refused 17 (at + place)
+      reserved-step T r = fuelled T ∙ enter-reserved (to - suc at) T at (range text K at to) e (rw operator-name at r)
+
       step :
-          (T : Table) → entered T at
+          (T : Table) → isReserved (charactersOf text K (at + place)) ≡ false
+          → entered T at
           ≡ elim (hasRoom T d) [
             | true ↦ enter (to - suc at) (declare T d) (at + n) rest
             | false ↦ refused 9 (at + place)
           ]
-      step T =
-          let k : to - at ≡ suc (to - suc at) = omega arith in
-          ap (λ k. enter k T at (range text K at to)) k ∙ enter-step (to - suc at) T at (range text K at to) e
+      step T r = fuelled T ∙ enter-step (to - suc at) T at (range text K at to) e (rw operator-name at r)
 
       further : (T : Table) → enter (to - suc at) (declare T d) (at + n) rest ≡ entered (declare T d) (at + n)
       further T =
@@ -212,8 +221,9 @@ module _ (text : Bytes) (K : List ℕ) (to : ℕ) where
             within = within;
             isSymbol = operator-kind;
             behind = next-begins;
-            refuses = λ T g. step T ∙ rw (lt-leb _ _ g, hasRoom) refl;
-            passes = λ T g. step T ∙ rw (le-leb _ _ g, hasRoom) (further T);
+            reserves = reserved-step;
+            refuses = λ T r g. step T r ∙ rw (lt-leb _ _ g, hasRoom) refl;
+            passes = λ T r g. step T r ∙ rw (le-leb _ _ g, hasRoom) (further T);
           }
 
     -- What the code answers for it.
@@ -239,7 +249,7 @@ module _ (text : Bytes) (K : List ℕ) (to : ℕ) where
     role-of :
         (f : Fixity) (a : Associativity) (w m : Bytes) (rest : List Token) → declaration (range text K at to) ≡ parsed (declares f a w m) rest
         → RoleAt (fixityCode f) (sideCode a + value w) (start K (at + 3))
-    unfolding declare operatorPlace declarationTokens nameOf isDeclaration isPrecedence roleCode
+    unfolding declare operatorPlace declarationTokens operatorOf isDeclaration isPrecedence roleCode
     role-of f a w m rest e =
         let d : Declaration = declares f a w m in
         let q : Role = record { precedence = value w; associativity = a } in
@@ -274,7 +284,7 @@ module _ (text : Bytes) (K : List ℕ) (to : ℕ) where
       pub step : DeclarationAt ps at (removeRoles (charactersOf text K (at + 1))) 1 3
 
     pub clears-at : (operator : ℕ) → Said (Clears operator) → ClearsAt operator
-    unfolding declare operatorPlace declarationTokens nameOf
+    unfolding declare operatorPlace declarationTokens operatorOf
     clears-at operator = go (declaration (range text K at to)) refl
       where
         go : (p : D.Parsed) → declaration (range text K at to) ≡ p → Parses K at p (Clears operator) → ClearsAt operator

@@ -1,4 +1,4 @@
--- Refusals 8 to 10 over all blocks, and the roles in force of each item.
+-- Refusals 8 to 10 and 17 over all blocks, and the roles in force of each item.
 use mathlib.Core.Path.{_≡_}
 use mathlib.Core.Bool.{Bool, true, false}
 use mathlib.Core.List.{List}

@@ -1,4 +1,5 @@
-// The roles in force of each token: document 01's "A word or sign without a role in force is a name", and refusals 8 to 10 over all blocks.
+// The roles in force of each token: document 01's "A word or sign without a role in force is a name", and refusals 8 to 10 and 17 over all
+// blocks.
 use declaration_part::parse;
 use declaration_part::parse::Parsed;
 use declaration_part::walk;
@@ -12,6 +13,7 @@ use rows::role;
 use rows::roles as row;
 use rows::tokens;
 use starting_operators::notes;
+use starting_operators::reserved;
 ghost use mathlib.Core.Path.{_≡_};
 ghost use mathlib.Core.Bool.{false};
 ghost use mathlib.Core.List.{List};
@@ -229,8 +231,10 @@ pub fn resolve<'a>(
     Resolved::Passed
 }
 
-// Refusals 8, 9 and 10.
+// Refusals 8, 17, 9 and 10, in their order.
 pub const MALFORMED: u8 = 8;
+
+pub const RESERVED_OPERATOR: u8 = 17;
 
 pub const TOO_MANY_OPERATORS: u8 = 9;
 
@@ -310,6 +314,12 @@ fn resolve_block<'a>(
                 let m = at + 3;
                 let size = tokens::size(tokens, m);
                 let name = walk::token_at(text, operator, size);
+                if reserved::is_reserved(name) {
+                    return Resolved::Refused {
+                        number: RESERVED_OPERATOR,
+                        at: m,
+                    };
+                }
                 let count = t.count;
                 let found = table::find(text, &t.words, &t.hints, count, name);
                 if is_full(count, found) {
@@ -326,8 +336,15 @@ fn resolve_block<'a>(
                 at += 5;
             }
             Parsed::Clears { place: operator } => {
-                let size = tokens::size(tokens, at + 1);
+                let m = at + 1;
+                let size = tokens::size(tokens, m);
                 let name = walk::token_at(text, operator, size);
+                if reserved::is_reserved(name) {
+                    return Resolved::Refused {
+                        number: RESERVED_OPERATOR,
+                        at: m,
+                    };
+                }
                 let count = t.count;
                 t = t.clear(table::find(text, &t.words, &t.hints, count, name));
                 place = behind_semicolon(text, operator, size);

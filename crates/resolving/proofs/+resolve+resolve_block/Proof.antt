@@ -1,7 +1,7 @@
 -- The measure is the length of the range, or of the block. The loop over items keeps `Progress`, that over declarations `Entering`; what a
 -- turn answers or how it goes on are the laws of `ItemLoop` and `DeclarationLoop`. Assumes nothing.
 use mathlib.Core.Path.{_≡_, refl, sym, ap, subst, _∙_}
-use mathlib.Core.Bool.{true}
+use mathlib.Core.Bool.{true, false}
 use mathlib.Core.Logic.{⊎-elim}
 use Prim.Native.Nat.{ℕ, _+_, _-_, _≤_, _<_}
 use native.Mathlib.Omega.{arith}
@@ -12,7 +12,7 @@ use borrow.Fn.PlainCycle.{Measures, is, falls, and}
 use lib.ListN.{length, take, drop}
 use Rattle.grammar.specs.Outcome.{refused}
 use Rattle.grammar.specs.Operator.{lawfulTable}
-use Rattle.grammar.specs.Declaration.{declaration}
+use Rattle.grammar.specs.Declaration.{declaration, isReserved}
 use Rattle.grammar.proofs.Logic.{clash}
 use Rattle.rows.specs.Fields.{closer, Within}
 use Rattle.rows.proofs.Fields.{within}
@@ -48,11 +48,13 @@ use Rattle.resolving.proofs.DeclarationLoop.{
   unfit-stops,
   role-name,
   role-places,
+  role-reserved,
   overfull,
   declarable,
   declared-over,
   cleared-name,
   cleared-places,
+  cleared-reserved,
   cleared-over,
   lawful-passes,
   unlawful-refuses,
@@ -79,6 +81,7 @@ use Rattle.resolving.proofs.note.Reads as note-reads
 use Rattle.rows.proofs.tokens.closer.Reads as closer-reads
 use Rattle.rows.proofs.tokens.size.Reads as size-reads
 use Rattle.rows.proofs.tokens.start.Reads as start-reads
+use Rattle.starting_operators.proofs.reserved.is_reserved.Reads as is-reserved-reads
 use Rattle.resolving.proofs.+resolve+resolve_block.{statement}
 use Rattle.resolving.proofs.+resolve+resolve_block.Tie.{close}
 
@@ -338,6 +341,8 @@ block-calls t = (
   size-reads.Learnt,
   token-at-reads.Asked,
   token-at-reads.Learnt,
+  is-reserved-reads.Asked,
+  is-reserved-reads.Learnt,
   find-reads.Asked,
   find-reads.Learnt,
   is-full-reads.Asked,
@@ -509,7 +514,7 @@ module _ (t : ℕ) where
   block-token-at-requires : resolve-block-lts.Need-token-at-requires (block-calls t) (resolve-block-at t) resolve-block.Post Inv-declarations μ-declarations
   block-token-at-requires c κs = search needs
 
-  -- Its operator's name, and what is found of it.
+  -- Its operator's name.
   abbrev sized :
       resolve-block-lts.After-token-at (block-calls t) (resolve-block-at t) resolve-block.Post Inv-declarations μ-declarations
       → resolve-block-lts.After-size (block-calls t) (resolve-block-at t) resolve-block.Post Inv-declarations μ-declarations
@@ -530,93 +535,126 @@ module _ (t : ℕ) where
       let w = role-turn c in
       subst IsName (sym (c .token-at .ensures)) (role-name (w .before .loop .inv) (not-in w) (role (role-of c)) (sized c .size .ensures))
 
+  block-is-reserved-requires : resolve-block-lts.Need-is-reserved-requires (block-calls t) (resolve-block-at t) resolve-block.Post Inv-declarations μ-declarations
+  block-is-reserved-requires c κs = search needs
+
+  block-returns-3 : resolve-block-lts.Need-returns-3 (block-calls t) (resolve-block-at t) resolve-block.Post Inv-declarations μ-declarations
+  block-returns-3 c =
+      let r = c .before in
+      let n = r .before in
+      let w = role-turn n in
+      answers-refused _ _ _ _ _ _ _ _ _
+      (role-reserved (w .before .loop .inv) (not-in w) (role (role-of n)) (sized n .size .ensures)
+      (ap isReserved (sym (n .token-at .ensures)) ∙ sym (r .is-reserved .ensures) ∙ c .if2 .taken))
+
+  free :
+      (c : resolve-block-lts.Else2 (block-calls t) (resolve-block-at t) resolve-block.Post Inv-declarations μ-declarations)
+      → let n = c .before .before in
+      let a = block-entry (block-of (role-turn n .before)) .args in
+      isReserved (take (sized n .size .result) (drop (role-of n .fixity .given .0 .1 .1 .0) (a .text .now))) ≡ false
+  free c =
+      let r = c .before in
+      ap isReserved (sym (r .before .token-at .ensures)) ∙ sym (r .is-reserved .ensures) ∙ c .if2 .left
+
+  -- Behind that test, what is found of the name.
+  abbrev unreserved :
+      resolve-block-lts.After-find (block-calls t) (resolve-block-at t) resolve-block.Post Inv-declarations μ-declarations
+      → resolve-block-lts.Else2 (block-calls t) (resolve-block-at t) resolve-block.Post Inv-declarations μ-declarations
+  unreserved c = c .before .before .before .before
+
+  abbrev operator-of :
+      resolve-block-lts.After-find (block-calls t) (resolve-block-at t) resolve-block.Post Inv-declarations μ-declarations
+      → resolve-block-lts.After-token-at (block-calls t) (resolve-block-at t) resolve-block.Post Inv-declarations μ-declarations
+  operator-of c = unreserved c .before .before
+
   looks :
       (c : resolve-block-lts.After-find (block-calls t) (resolve-block-at t) resolve-block.Post Inv-declarations μ-declarations)
-      → let n = c .before .before .before .before in
+      → let n = operator-of c in
       let w = role-turn n .before in
       c .find .result
       ≡ codedFind (block-entry (block-of w) .args .text .now) (w .loop .t .words)
       (take (sized n .size .result) (drop (role-of n .fixity .given .0 .1 .1 .0) (block-entry (block-of w) .args .text .now))) 0 (w .loop .t .count)
   looks c =
-      let n = c .before .before .before .before in
+      let n = operator-of c in
       let w = role-turn n .before in
       c .find .ensures ∙ ap (λ m. codedFind (block-entry (block-of w) .args .text .now) (w .loop .t .words) m 0 (w .loop .t .count)) (n .token-at .ensures)
 
   block-find-requires : resolve-block-lts.Need-find-requires (block-calls t) (resolve-block-at t) resolve-block.Post Inv-declarations μ-declarations
-  block-find-requires c κs = let n = c .before .before .before in (role-turn n .before .loop .inv .sound, named n)
+  block-find-requires c κs = let n = c .before .before .before .before .before in (role-turn n .before .loop .inv .sound, named n)
 
   block-is-full-requires : resolve-block-lts.Need-is-full-requires (block-calls t) (resolve-block-at t) resolve-block.Post Inv-declarations μ-declarations
   block-is-full-requires c κs = search needs
 
-  block-returns-3 : resolve-block-lts.Need-returns-3 (block-calls t) (resolve-block-at t) resolve-block.Post Inv-declarations μ-declarations
-  block-returns-3 c =
+  block-returns-4 : resolve-block-lts.Need-returns-4 (block-calls t) (resolve-block-at t) resolve-block.Post Inv-declarations μ-declarations
+  block-returns-4 c =
       let f = c .before .before in
-      let n = f .before .before .before .before in
+      let n = operator-of f in
       let w = role-turn n in
       answers-refused _ _ _ _ _ _ _ _ _
-      (overfull (w .before .loop .inv) (not-in w) (role (role-of n)) (sized n .size .ensures) _ (looks f) (sym (c .before .is-full .ensures) ∙ c .if2 .taken))
+      (overfull (w .before .loop .inv) (not-in w) (role (role-of n)) (sized n .size .ensures) (free (unreserved f)) _ (looks f)
+      (sym (c .before .is-full .ensures) ∙ c .if3 .taken))
 
   block-is-new-requires : resolve-block-lts.Need-is-new-requires (block-calls t) (resolve-block-at t) resolve-block.Post Inv-declarations μ-declarations
   block-is-new-requires c κs = search needs
 
   block-hash-requires : resolve-block-lts.Need-hash-requires (block-calls t) (resolve-block-at t) resolve-block.Post Inv-declarations μ-declarations
-  block-hash-requires c κs = named (c .before .before .before .before .before .before .before .before)
+  block-hash-requires c κs = named (operator-of (c .before .before .before .before))
 
   role-declarable :
       (c : resolve-block-lts.After-hash (block-calls t) (resolve-block-at t) resolve-block.Post Inv-declarations μ-declarations)
       → let e = c .before .before .before in
       let f = e .before .before in
-      let n = f .before .before .before .before in
+      let n = operator-of f in
       let w = role-turn n .before in
       Declarable (block-entry (block-of w) .args .text .now) (w .loop .t) (f .find .result) (role-of n .fixity .given .0 .1 .1 .0) (sized n .size .result)
       (c .hash .result) (role-of n .fixity .given .0 .0) (role-of n .fixity .given .0 .1 .0)
   role-declarable c =
       let e = c .before .before .before in
       let f = e .before .before in
-      let n = f .before .before .before .before in
+      let n = operator-of f in
       let w = role-turn n in
-      declarable (w .before .loop .inv) (not-in w) (role (role-of n)) (sized n .size .ensures) _ (looks f)
+      declarable (w .before .loop .inv) (not-in w) (role (role-of n)) (sized n .size .ensures) (free (unreserved f)) _ (looks f)
       (c .hash .ensures .0 ∙ ap hashOf (n .token-at .ensures), c .hash .ensures .1)
-      (sym (e .before .is-full .ensures) ∙ e .if2 .left)
+      (sym (e .before .is-full .ensures) ∙ e .if3 .left)
 
   block-declare-requires : resolve-block-lts.Need-declare-requires (block-calls t) (resolve-block-at t) resolve-block.Post Inv-declarations μ-declarations
   block-declare-requires c κs = (_, role-declarable c)
 
   block-behind-semicolon-requires : resolve-block-lts.Need-behind-semicolon-requires (block-calls t) (resolve-block-at t) resolve-block.Post Inv-declarations μ-declarations
   block-behind-semicolon-requires c κs =
-      let n = c .before .before .before .before .before .before .before .before .before .before in
+      let n = operator-of (c .before .before .before .before .before .before) in
       let w = role-turn n in
       role-places (w .before .loop .inv) (not-in w) (role (role-of n)) (sized n .size .ensures)
 
   block-add-at-2 : resolve-block-lts.Need-add-at-2 (block-calls t) (resolve-block-at t) resolve-block.Post Inv-declarations μ-declarations
   block-add-at-2 c =
-      let m = role-of (c .before .before .before .before .before .before .before .before .before .before .before) in
+      let m = role-of (operator-of (c .before .before .before .before .before .before .before)) in
       omega (arith, role-within m, small (block-entry (block-of (m .before .before .before .before))))
 
   block-loop-less : resolve-block-lts.Need-loop-less (block-calls t) (resolve-block-at t) resolve-block.Post Inv-declarations μ-declarations
   block-loop-less c =
-      let m = role-of (c .before .before .before .before .before .before .before .before .before .before .before) in
+      let m = role-of (operator-of (c .before .before .before .before .before .before .before)) in
       omega (arith, role-within m, opened (block-of (m .before .before .before .before)))
 
   -- The conditions are still met, if they were and the operator is new.
   still :
-      (c : resolve-block-lts.Joined3 (block-calls t) (resolve-block-at t) resolve-block.Post Inv-declarations μ-declarations)
+      (c : resolve-block-lts.Joined4 (block-calls t) (resolve-block-at t) resolve-block.Post Inv-declarations μ-declarations)
       → let f = c .before .before .before .before in
-      c .if3 .lawful ≡ true → (role-turn (f .before .before .before .before) .before .loop .lawful ≡ true) × (isNew (f .find .result) ≡ true)
+      c .if4 .lawful ≡ true → (role-turn (operator-of f) .before .loop .lawful ≡ true) × (isNew (f .find .result) ≡ true)
   still c z =
       ⊎-elim
       (λ w. absurd (clash z (w .1)))
       (λ w. (sym (w .1) ∙ z, held (c .before .is-new .ensures) (w .0 .left)))
-      (c .if3 .came)
+      (c .if4 .came)
 
   block-loop-again : resolve-block-lts.Need-loop-again (block-calls t) (resolve-block-at t) resolve-block.Post Inv-declarations μ-declarations
   block-loop-again c =
       let u = c .before in
       let j = u .before .before in
       let f = j .before .before .before .before in
-      let n = f .before .before .before .before in
+      let n = operator-of f in
       let w = role-turn n in
-      declared-over (w .before .loop .inv) (not-in w) (role (role-of n)) (sized n .size .ensures) _ (looks f) _
+      declared-over (w .before .loop .inv) (not-in w) (role (role-of n)) (sized n .size .ensures) (free (unreserved f)) _ (looks f) _
       (u .declare .ensures _ (role-declarable (u .before))) _ (still j) (c .behind-semicolon .ensures)
 
   block-enum-known-operator : resolve-block-lts.Need-enum-known-operator (block-calls t) (resolve-block-at t) resolve-block.Post Inv-declarations μ-declarations
@@ -643,8 +681,8 @@ module _ (t : ℕ) where
       w .loop .at + 3 ≤ closer (a .tokens .now) (a .from)
   clears-within c = clears c .step .within
 
-  block-add-size : resolve-block-lts.Need-add-size (block-calls t) (resolve-block-at t) resolve-block.Post Inv-declarations μ-declarations
-  block-add-size c = let m = c .before in omega (arith, clears-within m, small (block-entry (block-of (m .before .before .before .before))))
+  block-add-m-2 : resolve-block-lts.Need-add-m-2 (block-calls t) (resolve-block-at t) resolve-block.Post Inv-declarations μ-declarations
+  block-add-m-2 c = let m = c .before in omega (arith, clears-within m, small (block-entry (block-of (m .before .before .before .before))))
 
   block-size-requires-2 : resolve-block-lts.Need-size-requires-2 (block-calls t) (resolve-block-at t) resolve-block.Post Inv-declarations μ-declarations
   block-size-requires-2 c κs = let m = c .before in stands (block-entry (block-of (m .before .before .before .before))) _ (omega (arith, clears-within m))
@@ -652,29 +690,62 @@ module _ (t : ℕ) where
   block-token-at-requires-2 : resolve-block-lts.Need-token-at-requires-2 (block-calls t) (resolve-block-at t) resolve-block.Post Inv-declarations μ-declarations
   block-token-at-requires-2 c κs = search needs
 
-  -- Its name, and what the table has of it.
+  -- Its name.
   abbrev clears-turn :
       resolve-block-lts.After-token-at2 (block-calls t) (resolve-block-at t) resolve-block.Post Inv-declarations μ-declarations
       → resolve-block-lts.In-loop (block-calls t) (resolve-block-at t) resolve-block.Post Inv-declarations μ-declarations
   clears-turn c = c .before .before .before .before .before .before
 
+  block-is-reserved-requires-2 : resolve-block-lts.Need-is-reserved-requires-2 (block-calls t) (resolve-block-at t) resolve-block.Post Inv-declarations μ-declarations
+  block-is-reserved-requires-2 c κs = search needs
+
+  block-returns-5 : resolve-block-lts.Need-returns-5 (block-calls t) (resolve-block-at t) resolve-block.Post Inv-declarations μ-declarations
+  block-returns-5 c =
+      let r = c .before in
+      let n = r .before in
+      let w = clears-turn n in
+      answers-refused _ _ _ _ _ _ _ _ _
+      (cleared-reserved (w .before .loop .inv) (not-in w) (clears (n .before .before .before)) (n .before .size2 .ensures)
+      (ap isReserved (sym (n .token-at2 .ensures)) ∙ sym (r .is-reserved2 .ensures) ∙ c .if5 .taken))
+
+  clears-free :
+      (c : resolve-block-lts.Else5 (block-calls t) (resolve-block-at t) resolve-block.Post Inv-declarations μ-declarations)
+      → let n = c .before .before in
+      let m = n .before .before .before in
+      let a = block-entry (block-of (clears-turn n .before)) .args in
+      isReserved (take (n .before .size2 .result) (drop (m .operator .given .0 .0) (a .text .now))) ≡ false
+  clears-free c =
+      let r = c .before in
+      ap isReserved (sym (r .before .token-at2 .ensures)) ∙ sym (r .is-reserved2 .ensures) ∙ c .if5 .left
+
+  -- Behind that test, what the table has of it.
   block-find-requires-2 : resolve-block-lts.Need-find-requires-2 (block-calls t) (resolve-block-at t) resolve-block.Post Inv-declarations μ-declarations
   block-find-requires-2 c κs =
-      let n = c .before .before .before in
+      let n = c .before .before .before .before .before in
       let w = clears-turn n in (
         w .before .loop .inv .sound,
         subst IsName (sym (n .token-at2 .ensures)) (cleared-name (w .before .loop .inv) (not-in w) (clears (n .before .before .before)) (n .before .size2 .ensures)),
       )
 
+  abbrev clears-unreserved :
+      resolve-block-lts.After-find2 (block-calls t) (resolve-block-at t) resolve-block.Post Inv-declarations μ-declarations
+      → resolve-block-lts.Else5 (block-calls t) (resolve-block-at t) resolve-block.Post Inv-declarations μ-declarations
+  clears-unreserved c = c .before .before .before .before
+
+  abbrev cleared-of :
+      resolve-block-lts.After-find2 (block-calls t) (resolve-block-at t) resolve-block.Post Inv-declarations μ-declarations
+      → resolve-block-lts.After-token-at2 (block-calls t) (resolve-block-at t) resolve-block.Post Inv-declarations μ-declarations
+  cleared-of c = clears-unreserved c .before .before
+
   clearable :
       (c : resolve-block-lts.After-find2 (block-calls t) (resolve-block-at t) resolve-block.Post Inv-declarations μ-declarations)
-      → let n = c .before .before .before .before in
+      → let n = cleared-of c in
       let w = clears-turn n .before in
       let m = n .before .before .before in
       let a = block-entry (block-of w) .args in
       Clearable (a .text .now) (w .loop .t) (c .find2 .result) (take (n .before .size2 .result) (drop (m .operator .given .0 .0) (a .text .now)))
   clearable c =
-      let n = c .before .before .before .before in
+      let n = cleared-of c in
       let w = clears-turn n .before in
       record {
         sound = w .loop .inv .sound;
@@ -688,7 +759,7 @@ module _ (t : ℕ) where
   abbrev cleared-token :
       resolve-block-lts.After-clear (block-calls t) (resolve-block-at t) resolve-block.Post Inv-declarations μ-declarations
       → resolve-block-lts.After-token-at2 (block-calls t) (resolve-block-at t) resolve-block.Post Inv-declarations μ-declarations
-  cleared-token c = c .before .before .before .before .before
+  cleared-token c = cleared-of (c .before)
 
   abbrev cleared-from :
       resolve-block-lts.After-clear (block-calls t) (resolve-block-at t) resolve-block.Post Inv-declarations μ-declarations
@@ -716,7 +787,8 @@ module _ (t : ℕ) where
       let u = c .before in
       let n = cleared-token u in
       let w = clears-turn n in
-      cleared-over (w .before .loop .inv) (not-in w) (clears (cleared-from u)) (n .before .size2 .ensures) _
+      cleared-over (w .before .loop .inv) (not-in w) (clears (cleared-from u)) (n .before .size2 .ensures)
+      (clears-free (clears-unreserved (u .before))) _
       (u .clear .ensures _ _ (clearable (u .before)))
       (c .behind-semicolon2 .ensures)
 
@@ -730,20 +802,20 @@ module _ (t : ℕ) where
   block-all-lawful-requires : resolve-block-lts.Need-all-lawful-requires (block-calls t) (resolve-block-at t) resolve-block.Post Inv-declarations μ-declarations
   block-all-lawful-requires c κs = let w = c .before .before .before .before in (_, w .loop .t .hints, w .loop .inv .sound)
 
-  block-returns-4 : resolve-block-lts.Need-returns-4 (block-calls t) (resolve-block-at t) resolve-block.Post Inv-declarations μ-declarations
+  block-returns-6 : resolve-block-lts.Need-returns-6 (block-calls t) (resolve-block-at t) resolve-block.Post Inv-declarations μ-declarations
   unfolding tableOf
-  block-returns-4 c =
+  block-returns-6 c =
       let l = c .before .before .before .before .before in
       let w = l .before in
       answers-refused _ _ _ _ _ _ _ _ _
-      (unlawful-refuses (w .loop .inv) (at-in l) (failed (c .before .all-lawful .ensures _) (c .if5 .taken)) ∙ ap (refused 10) (sym (opened (block-of w))))
+      (unlawful-refuses (w .loop .inv) (at-in l) (failed (c .before .all-lawful .ensures _) (c .if7 .taken)) ∙ ap (refused 10) (sym (opened (block-of w))))
 
   met :
-      (c : resolve-block-lts.Joined4 (block-calls t) (resolve-block-at t) resolve-block.Post Inv-declarations μ-declarations)
+      (c : resolve-block-lts.Joined6 (block-calls t) (resolve-block-at t) resolve-block.Post Inv-declarations μ-declarations)
       → let w = c .before .before in
       lawfulTable (tableOf (block-entry (block-of w) .args .text .now) (w .loop .t)) ≡ true
   unfolding tableOf
-  met c = ⊎-elim (λ j. held (j .3 .ensures _) (j .4 .left)) (λ j. c .before .before .loop .inv .meets (held refl (j .left))) (c .if4 .came)
+  met c = ⊎-elim (λ j. held (j .3 .ensures _) (j .4 .left)) (λ j. c .before .before .loop .inv .meets (held refl (j .left))) (c .if6 .came)
 
   block-add-resolve-2 : resolve-block-lts.Need-add-resolve-2 (block-calls t) (resolve-block-at t) resolve-block.Post Inv-declarations μ-declarations
   block-add-resolve-2 c = let d = block-of (c .before .before) in omega (arith, small (block-entry d), opened d)
@@ -757,8 +829,8 @@ module _ (t : ℕ) where
         (body-ranged (opened d) (ended d) (block-entry d .pre .1 .1), record { sound = w .loop .inv .sound; lawful = met j }),
       )
 
-  block-returns-5 : resolve-block-lts.Need-returns-5 (block-calls t) (resolve-block-at t) resolve-block.Post Inv-declarations μ-declarations
-  block-returns-5 c =
+  block-returns-7 : resolve-block-lts.Need-returns-7 (block-calls t) (resolve-block-at t) resolve-block.Post Inv-declarations μ-declarations
+  block-returns-7 c =
       let r = c .before .before in
       let j = r .before .before .before .before .before in
       let l = j .before in
@@ -767,7 +839,7 @@ module _ (t : ℕ) where
       answers-body _ _ _ _ _ _ (w .loop .inv .sound) (lawful-passes (w .loop .inv) (at-in l) (met j)) _ _ _ _ (opened d) (ended d) (r .resolve2 .ensures)
 
   block-same-length-2 : resolve-block-lts.Need-same-length-2 (block-calls t) (resolve-block-at t) resolve-block.Post Inv-declarations μ-declarations
-  block-same-length-2 c = block-returns-5 c .kept .long
+  block-same-length-2 c = block-returns-7 c .kept .long
 
 pub +resolve+resolve-block-spec : {M : Type 1} → statement M
 +resolve+resolve-block-spec = close μ-resolve μ-resolve-block (λ t. resolve-lts.spec (calls t)
@@ -825,9 +897,11 @@ pub +resolve+resolve-block-spec : {M : Type 1} → statement M
     (block-add-m t)
     (block-size-requires t)
     (block-token-at-requires t)
+    (block-is-reserved-requires t)
+    (block-returns-3 t)
     (block-find-requires t)
     (block-is-full-requires t)
-    (block-returns-3 t)
+    (block-returns-4 t)
     (block-is-new-requires t)
     (block-hash-requires t)
     (block-declare-requires t)
@@ -836,9 +910,11 @@ pub +resolve+resolve-block-spec : {M : Type 1} → statement M
     (block-loop-less t)
     (block-loop-again t)
     (block-enum-known-operator t)
-    (block-add-size t)
+    (block-add-m-2 t)
     (block-size-requires-2 t)
     (block-token-at-requires-2 t)
+    (block-is-reserved-requires-2 t)
+    (block-returns-5 t)
     (block-find-requires-2 t)
     (block-clear-requires t)
     (block-behind-semicolon-requires-2 t)
@@ -846,8 +922,8 @@ pub +resolve+resolve-block-spec : {M : Type 1} → statement M
     (block-loop-less-2 t)
     (block-loop-again-2 t)
     (block-all-lawful-requires t)
-    (block-returns-4 t)
+    (block-returns-6 t)
     (block-add-resolve-2 t)
     (block-resolve-requires-2 t)
     (block-same-length-2 t)
-    (block-returns-5 t)
+    (block-returns-7 t)

@@ -1,0 +1,78 @@
+-- The reserved operators have, in every span of a text past checks 1 to 10 and 17, the roles that they start with. A declaration that the
+-- checks let pass names another operator, and it changes the roles of that one alone; so the bodies of blocks keep them, from the outermost in.
+use mathlib.Core.Path.{_≡_, refl, sym, ap, _∙_}
+use mathlib.Core.Bool.{Bool, true, false}
+use mathlib.Core.List.{List, [], _∷_}
+use Prim.Native.Nat.{ℕ, zero, suc}
+use native.Mathlib.Omega.{arith}
+use lib.ListN.{length}
+use Rattle.grammar.specs.Bytes.{Bytes, same, All}
+use Rattle.grammar.specs.Token.{Token}
+use Rattle.grammar.specs.Operator.{Fixity, Table, role}
+use Rattle.grammar.specs.Declaration.{
+  Declaration,
+  declares,
+  clears,
+  declare,
+  declareAll,
+  declarations,
+  allTokens,
+  startTable,
+  operatorOf,
+  isReserved,
+  Free,
+}
+use Rattle.grammar.specs.Span.{pair, scope, items}
+use Rattle.grammar.specs.Spans.{Span, SpanIn, itself, inPair, inBody, SpanOf}
+use Rattle.grammar.specs.Blocks.{bodyTable}
+use Rattle.grammar.specs.Fault.{Past}
+use Rattle.grammar.specs.Answer.{tokensOf}
+use Rattle.grammar.proofs.Logic.{clash, same-eq}
+use Rattle.grammar.proofs.Scanned.{length-tokens}
+use Rattle.grammar.proofs.Operators.{role-declared-other, role-removed-other}
+use Rattle.grammar.proofs.DeclarationTokens.{declarations-told}
+use Rattle.grammar.proofs.Nested.{nesting-anywhere}
+use Rattle.grammar.proofs.ItemsRelation.{items-only}
+use Rattle.grammar.proofs.SpansRelation.{PastUnder, past-at}
+use Rattle.grammar.proofs.Faults.{past-checked}
+
+module _ (m : Bytes) (reserved : isReserved m ≡ true) (f : Fixity) where
+  -- A declaration of another operator.
+  other-operator : (d : Declaration) → Free d → same m (operatorOf d) ≡ false
+  other-operator d free = go (same m (operatorOf d)) refl
+    where
+      go : (b : Bool) → same m (operatorOf d) ≡ b → b ≡ false
+      go true e = absurd (clash (sym (ap isReserved (same-eq m (operatorOf d) e)) ∙ reserved) free)
+      go false e = refl
+
+  declare-keeps : (T : Table) (d : Declaration) → Free d → role (declare T d) m f ≡ role T m f
+  unfolding declare operatorOf
+  declare-keeps T (declares g a c n) free = role-declared-other n m g f _ T (other-operator (declares g a c n) free)
+  declare-keeps T (clears n) free = role-removed-other n m T f (other-operator (clears n) free)
+
+  declarations-keep : (T : Table) (ds : List Declaration) → All Free ds → role (declareAll T ds) m f ≡ role T m f
+  unfolding declareAll
+  declarations-keep T [] free = refl
+  declarations-keep T (d ∷ ds) free = declarations-keep (declare T d) ds (free .1) ∙ declare-keeps T d (free .0)
+
+  -- A span in a span, and so every span of a text.
+  span-keeps :
+      {s r : Span} → SpanIn s r → (k : ℕ) (ts : List Token) → s .contents ≡ items ts → PastUnder k (s .table) ts
+      → role (r .table) m f ≡ role (s .table) m f
+  unfolding bodyTable
+  span-keeps h zero ts c p = absurd (omega arith)
+  span-keeps itself (suc k) ts c p = refl
+  span-keeps {s} (inPair xs us ys ks e i h) (suc k) ts c p =
+      span-keeps h k us (items-only us ks i) (past-at k (s .table) ts xs (pair us) ys p (sym c ∙ e))
+  span-keeps {s} (inBody xs ds us ys ks e i h) (suc k) ts c p =
+      let (d, q, free) = past-at k (s .table) ts xs (scope (allTokens ds) us) ys p (sym c ∙ e) in
+      let t = declarations-told (declarations (allTokens ds)) ds d in
+      span-keeps h k us (items-only us ks i) (rw t at q) ∙ declarations-keep (s .table) ds (rw t at free)
+
+  pub reserved-roles : (text : Bytes) (ts : List Token) → Past text ts → (s : Span) → SpanOf ts s → role (s .table) m f ≡ role startTable m f
+  reserved-roles text ts past s (is, i, h) =
+      let (ps, c, e) = past-checked text ts past in
+      let l = length-tokens ps in
+      let under : PastUnder (suc (length ps)) startTable (tokensOf ps) =
+      ((λ j. nesting-anywhere (tokensOf ps) [] 0 j (c .nested)), omega arith, (0, c .declared)) in
+      span-keeps h (suc (length ps)) ts (items-only ts is i) (rw e at under)

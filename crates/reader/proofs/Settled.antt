@@ -1,0 +1,128 @@
+-- What is asked of a call settles its answer and its buffer: the number says which of the demands applies, and that one gives the rest.
+-- It speaks of the reserved operators only through the rows that hold of the text, so it is asked alike where these are alike.
+use mathlib.Core.Path.{_≡_, refl, sym, ap, ap₂, subst, _∙_}
+use mathlib.Core.Logic.{_⊎_, inl, inr, ⊎-elim}
+use mathlib.Core.Bool.{Bool, true, false}
+use mathlib.Core.List.{List, _++_}
+use Prim.Native.Nat.{ℕ, zero, suc, _*_, _≤_, _<_}
+use native.Mathlib.Omega.{arith}
+use lib.Dec.{leb}
+use borrow.Author.Tests.{leb-true, leb-false}
+use lib.ListN.{length, take, drop, take-append-drop}
+use Rattle.grammar.specs.Bytes.{Bytes}
+use Rattle.grammar.specs.Tree.{Tree}
+use Rattle.grammar.specs.Nodes.{wordsPerNode}
+use Rattle.grammar.specs.Fault.{BeforeEleven}
+use Rattle.grammar.proofs.TokenFaults.{goes-on-unique}
+use Rattle.grammar.proofs.WordsOffsets.{words-offsets}
+use Rattle.grammar.proofs.ReservedNames.{Alike, same-fault, same-past, same-trees}
+use Rattle.reader.specs.declared.Answer.{Answer}
+use Rattle.reader.specs.Demands.{RightAnswerReserving, TableHolds, BufferHolds, Right}
+
+-- Two lists with the same front and the same rest.
+same-parts : (n : ℕ) (xs ys : List ℕ) → take n xs ≡ take n ys → drop n xs ≡ drop n ys → xs ≡ ys
+same-parts n xs ys f r = sym (take-append-drop n xs) ∙ ap₂ _++_ f r ∙ take-append-drop n ys
+
+-- What a buffer holds of a tree settles the count and the buffer: so it is of a node table, and of canonical text.
+abbrev Settles : (List ℕ → ℕ → Tree → Type 0) → Type 0
+Settles Holds = (t : Tree) (C C′ : List ℕ) (c d : ℕ) → Holds C c t → Holds C′ d t → (c ≡ d) × (C ≡ C′)
+
+pub table-settled : (text : Bytes) (N : List ℕ) → Settles (TableHolds text N)
+table-settled text N t C C′ c d h g =
+    let e : c ≡ d = h .counted ∙ sym (g .counted) in
+    let size : wordsPerNode * d ≡ wordsPerNode * c = ap (_*_ wordsPerNode) (sym e) in
+    let words = words-offsets (h .offsets) (g .offsets) t 0 0 (λ j l m. goes-on-unique (h .begins j (omega arith) .1) (g .begins j (omega arith) .1) .0) in
+    let front = h .written ∙ words ∙ sym (g .written) ∙ ap (λ k. take k C′) size in
+    let rest = h .behind ∙ ap (λ k. drop k N) (sym size) ∙ sym (g .behind) ∙ ap (λ k. drop k C′) size in
+    (e, same-parts (wordsPerNode * c) C C′ front rest)
+
+pub buffer-settled : (B : List ℕ) → Settles (BufferHolds B)
+buffer-settled B t C C′ c d h g =
+    let e : c ≡ d = h .counted ∙ sym (g .counted) in
+    let front = h .text ∙ sym (g .text) ∙ ap (λ k. take k C′) (sym e) in
+    let rest = h .behind ∙ ap (λ k. drop k B) e ∙ sym (g .behind) ∙ ap (λ k. drop k C′) (sym e) in
+    (e, same-parts c C C′ front rest)
+
+ten-or-eleven : (k : ℕ) → k ≤ 11 → (k ≤ 10) ⊎ (k ≡ 11)
+ten-or-eleven k l = go (leb k 10) refl
+  where
+    go : (b : Bool) → leb k 10 ≡ b → (k ≤ 10) ⊎ (k ≡ 11)
+    go true e = inl (leb-true k 10 e)
+    go false e = inr (omega (arith, leb-false k 10 e))
+
+module _ {reserved : Bytes → Bool} {own : ℕ} {Fits : Tree → Type 0} {Holds : List ℕ → ℕ → Tree → Type 0} {text : Bytes} {B : List ℕ} where
+  -- Two calls, of which the second has the number and the place of the first.
+  module _ {B′ B″ : List ℕ} {a b : Answer} (h : Right reserved own Fits Holds text B B′ a) (g : Right reserved own Fits Holds text B B″ b) where
+    same-answer : a .number ≡ b .number → a .offset ≡ b .offset → a .count ≡ b .count → a ≡ b
+    same-answer n p c i = record { number = n i; offset = p i; count = c i }
+
+    -- Both refuse.
+    refusals : (a .number ≡ 0 → ⊥) → b .number ≡ a .number → b .offset ≡ a .offset → (a ≡ b) × (B′ ≡ B″)
+    refusals f n p =
+        let (u, c) = h .answers .unchanged f in
+        let (w, d) = g .answers .unchanged (λ z. f (sym n ∙ z)) in
+        (same-answer (sym n) (sym p) (c ∙ sym d), u ∙ sym w)
+
+    -- Both read, and the buffers hold the same tree.
+    readings : Settles Holds → a .number ≡ 0 → (a ≡ b) × (B′ ≡ B″)
+    readings unique z =
+        let (t, tree, fits) = h .answers .success .0 z in
+        let y = g .answers .success .1 (t, tree, fits) in
+        let (c, u) = unique t B′ B″ (a .count) (b .count) (h .held z t tree) (g .held y t tree) in
+        (same-answer (z ∙ sym y) (h .answers .placeZero (inl z) ∙ sym (g .answers .placeZero (inl y))) c, u)
+
+    pub settled : 0 < own → Settles Holds → (a ≡ b) × (B′ ≡ B″)
+    settled positive unique = ⊎-elim (λ l. low (a .number) refl l) (⊎-elim (λ e. row (inr e)) owned) (h .answers .known)
+      where
+        row : BeforeEleven (a .number) → (a ≡ b) × (B′ ≡ B″)
+        row r =
+            let (n, p, s) = g .answers .faults (a .number) (a .offset) .1 (h .answers .faults (a .number) (a .offset) .0 (refl, refl, r)) in
+            refusals (λ z. ⊎-elim (λ l. omega arith) (λ l. omega arith) r) n p
+
+        owned : a .number ≡ own → (a ≡ b) × (B′ ≡ B″)
+        owned e =
+            let y = g .answers .tooShort .1 (h .answers .tooShort .0 e) in
+            refusals (λ z. omega arith) (y ∙ sym e) (g .answers .placeZero (inr y) ∙ sym (h .answers .placeZero (inr e)))
+
+        last : a .number ≡ 11 → (a ≡ b) × (B′ ≡ B″)
+        last e =
+            let (n, p) = g .answers .eleven (a .offset) .1 (h .answers .eleven (a .offset) .0 (e, refl)) in
+            refusals (λ z. omega arith) (n ∙ sym e) p
+
+        low : (n : ℕ) → a .number ≡ n → a .number ≤ 11 → (a ≡ b) × (B′ ≡ B″)
+        low zero e l = readings unique e
+        low (suc n) e l = ⊎-elim (λ m. row (inl (omega arith))) last (ten-or-eleven (a .number) l)
+
+-- Where two choices of reserved operators agree on what the text declares, the same is asked.
+module _ (R S : Bytes → Bool) (text : Bytes) (alike : Alike R S text) where
+  back : Alike S R text
+  back d h = sym (alike d h)
+
+  answers-alike :
+      {own : ℕ} {Fits : Tree → Type 0} {B B′ : List ℕ} {a : Answer} → RightAnswerReserving R own Fits text B B′ a
+      → RightAnswerReserving S own Fits text B B′ a
+  answers-alike h =
+      record {
+        known = h .known;
+        faults = λ n p. (λ z. same-fault R S text alike (h .faults n p .0 z), λ f. h .faults n p .1 (same-fault S R text back f));
+        eleven =
+            λ p. (
+              λ z. let (ts, past, first) = h .eleven p .0 z in (ts, same-past R S text alike past, first),
+              λ (ts, past, first). h .eleven p .1 (ts, same-past S R text back past, first),
+            );
+        success = (
+          λ z. let (t, tree, fits) = h .success .0 z in (t, same-trees R S text alike tree, fits),
+          λ (t, tree, fits). h .success .1 (t, same-trees S R text back tree, fits),
+        );
+        tooShort = (
+          λ z. let (t, tree, fails) = h .tooShort .0 z in (t, same-trees R S text alike tree, fails),
+          λ (t, tree, fails). h .tooShort .1 (t, same-trees S R text back tree, fails),
+        );
+        placeZero = h .placeZero;
+        unchanged = h .unchanged;
+      }
+
+  pub right-alike :
+      {own : ℕ} {Fits : Tree → Type 0} {Holds : List ℕ → ℕ → Tree → Type 0} {B B′ : List ℕ} {a : Answer}
+      → Right R own Fits Holds text B B′ a → Right S own Fits Holds text B B′ a
+  right-alike h = record { answers = answers-alike (h .answers); held = λ z t tree. h .held z t (same-trees S R text back tree) }

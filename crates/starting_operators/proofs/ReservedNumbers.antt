@@ -1,0 +1,53 @@
+-- The reserved operators are the starting operators with the first three numbers: their names compute, and a name that has no such number
+-- is none of theirs.
+use mathlib.Core.Path.{_≡_, refl, sym, ap, _∙_}
+use mathlib.Core.Bool.{Bool, true, false, _||_}
+use mathlib.Core.Logic.{_⊎_, ⊎-elim}
+use mathlib.Core.List.{[]}
+use Prim.Native.Nat.{ℕ, _≤_, _<_}
+use native.Mathlib.Omega.{arith}
+use lib.ListN.{getD}
+use Rattle.grammar.specs.Bytes.{Bytes, bytes, same}
+use Rattle.grammar.specs.Declaration.{isReserved}
+use Rattle.grammar.proofs.Logic.{same-eq, or-cases}
+use Rattle.starting_operators.specs.Starting.{startNumber}
+use Rattle.starting_operators.proofs.Numbers.{operator-names, each, named-number, start-name}
+
+-- How many there are.
+abbrev pub reserved-count : ℕ
+reserved-count = 3
+
+first-reserved : (n : ℕ) → n < 8 → n < reserved-count → isReserved (getD operator-names n []) ≡ true
+unfolding isReserved same
+first-reserved =
+    each (λ n. n < reserved-count → isReserved (getD operator-names n []) ≡ true)
+    ((λ h. refl), (λ h. refl), (λ h. refl), (λ h. absurd (omega arith)), (λ h. absurd (omega arith)), (λ h. absurd (omega arith)),
+    (λ h. absurd (omega arith)), (λ h. absurd (omega arith)))
+
+module _ (name : Bytes) where
+  pub numbered-reserved : startNumber name < reserved-count → true ≡ isReserved name
+  numbered-reserved h =
+      ⊎-elim (λ e. absurd (omega arith)) (λ n. sym (ap isReserved (n .1) ∙ first-reserved (startNumber name) (n .0) h)) (start-name name)
+
+  -- A reserved operator has one of these numbers.
+  reserved-numbered : isReserved name ≡ true → startNumber name < reserved-count
+  unfolding isReserved
+  reserved-numbered e =
+      let and = same name (bytes "and") in
+      let or = same name (bytes "or") in
+      ⊎-elim
+      (λ d.
+          ⊎-elim (λ h. numbered 1 (omega arith) (omega arith) (same-eq name (bytes "and") h))
+          (λ h. numbered 0 (omega arith) (omega arith) (same-eq name (bytes "or") h)) (or-cases and or d))
+      (λ h. numbered 2 (omega arith) (omega arith) (same-eq name (bytes "not") h))
+      (or-cases (and || or) (same name (bytes "not")) e)
+    where
+      numbered : (k : ℕ) → k < 8 → k < reserved-count → name ≡ getD operator-names k [] → startNumber name < reserved-count
+      numbered k h l e = omega (arith, named-number name k h e)
+
+  pub numbered-unreserved : reserved-count ≤ startNumber name → false ≡ isReserved name
+  numbered-unreserved h = go (isReserved name) refl
+    where
+      go : (b : Bool) → isReserved name ≡ b → false ≡ b
+      go true e = absurd (omega (arith, reserved-numbered e))
+      go false e = refl
