@@ -4,14 +4,16 @@
 #include <stdio.h>
 #include <string.h>
 
-#if RULE_READER_VERSION_MAJOR != 1
-#error "written for version 1 of rule_reader.h"
+#if RULE_READER_VERSION_MAJOR != 2
+#error "written for version 2 of rule_reader.h"
 #endif
 
+/* By number; 14 to 16 are not given. */
 static const char *const numbers[] = {
     "RULE_READ", "RULE_TEXT_TOO_LONG", "RULE_BAD_BYTE", "RULE_BAD_QUOTED_NAME", "RULE_TOKEN_TOO_LONG",
     "RULE_TOO_MANY_TOKENS", "RULE_UNMATCHED", "RULE_TOO_DEEP", "RULE_BAD_DECLARATION", "RULE_TOO_MANY_OPERATORS",
     "RULE_BAD_OVERLOADING", "RULE_NO_TREE", "RULE_TABLE_TOO_SHORT", "RULE_CANONICAL_TOO_LONG",
+    "", "", "", "RULE_RESERVED_OPERATOR",
 };
 
 static const char *const kinds[] = {

@@ -37,7 +37,7 @@
  *   - MINOR: something is added to this header, and all that was there stays;
  *   - PATCH: neither this header's declarations nor any result has changed.
  */
-#define RULE_READER_VERSION_MAJOR 1
+#define RULE_READER_VERSION_MAJOR 2
 #define RULE_READER_VERSION_MINOR 0
 #define RULE_READER_VERSION_PATCH 0
 
@@ -53,7 +53,10 @@ enum {
     RULE_BUFFER_BYTES = 16384   /* bytes of a buffer that is long enough for every canonical text */
 };
 
-/* The numbers of an answer. The place, if it is refused, is the answer's offset: a byte of the text, from 0 on. */
+/*
+ * The numbers of an answer. The place, if it is refused, is the answer's offset: a byte of the text, from 0 on. 14 to 16 are not
+ * given. 17 comes between 8 and 9: for each declaration 8, then 17, then 9.
+ */
 enum rule_number {
     RULE_READ = 0,                   /* read, or canonical text written */
     RULE_TEXT_TOO_LONG = 1,          /* the text has more than 16,384 bytes; place 16384 */
@@ -68,7 +71,8 @@ enum rule_number {
     RULE_BAD_OVERLOADING = 10,       /* the roles of an operator do not go together; the `in` */
     RULE_NO_TREE = 11,               /* a span has no tree; 0 for the whole text, the `(`, or the `in` */
     RULE_TABLE_TOO_SHORT = 12,       /* rule_read: the node table is too short; 0 */
-    RULE_CANONICAL_TOO_LONG = 13     /* rule_canonicalize: the canonical text is over the buffer or 16,384 bytes; 0 */
+    RULE_CANONICAL_TOO_LONG = 13,    /* rule_canonicalize: the canonical text is over the buffer or 16,384 bytes; 0 */
+    RULE_RESERVED_OPERATOR = 17      /* a complete declaration is of `and`, `or` or `not`; the operator */
 };
 
 /*
@@ -104,7 +108,7 @@ enum rule_kind {
 /*
  * Reads a text into a node table. `nodes_length` counts words. Node number i has the words 5 * i to 5 * i + 4. Children come
  * before their parents, left before right; the root is node count - 1. Words behind the nodes keep their contents.
- * Gives RULE_READ and the refusals 1 to 12. RULE_TABLE_WORDS words are always enough: then never 12.
+ * Gives RULE_READ and the refusals 1 to 12 and 17. RULE_TABLE_WORDS words are always enough: then never 12.
  */
 struct rule_answer rule_read(const uint8_t *text, size_t text_length, uint32_t *nodes, size_t nodes_length);
 
@@ -112,8 +116,8 @@ struct rule_answer rule_read(const uint8_t *text, size_t text_length, uint32_t *
  * Writes the canonical text of a text into a buffer: no bracket that means nothing, no leading zeros, no quotes that a name does
  * not need, one space between tokens. `buffer_length` counts bytes. No zero byte is added; bytes behind the canonical text keep
  * their contents.
- * Gives RULE_READ and the refusals 1 to 11 and 13; 1 to 11 exactly where rule_read gives them, at the same place. With
- * RULE_BUFFER_BYTES bytes 13 is given only where the canonical text is longer than 16,384 bytes, which no buffer helps.
+ * Gives RULE_READ and the refusals 1 to 11, 13 and 17; 1 to 11 and 17 exactly where rule_read gives them, at the same place.
+ * With RULE_BUFFER_BYTES bytes 13 is given only where the canonical text is longer than 16,384 bytes, which no buffer helps.
  */
 struct rule_answer rule_canonicalize(const uint8_t *text, size_t text_length, uint8_t *buffer, size_t buffer_length);
 

@@ -187,6 +187,8 @@ static void try_nested(void)
     row("32 nested blocks, 700 x `not ` inside", RULE_READ);
     nested_blocks(31, "let infix left 1201 o ; in a end");
     row("32 nested blocks, a bad declaration inside", RULE_BAD_DECLARATION);
+    nested_blocks(31, "let plain and ; in a end");
+    row("32 nested blocks, a reserved operator declared inside", RULE_RESERVED_OPERATOR);
     nested_blocks(31, "let infix right 400 - ; in a end");
     row("32 nested blocks, bad overloading inside", RULE_BAD_OVERLOADING);
     nested_blocks(32, "a a");

@@ -24,7 +24,7 @@ static uint8_t *text_start, *text_end;
 static uint32_t table[MARGIN + RULE_TABLE_WORDS + SPARE + MARGIN];
 static uint8_t bytes[MARGIN + RULE_BUFFER_BYTES + SPARE + MARGIN];
 
-static unsigned long calls, by_number[14];
+static unsigned long calls, by_number[RULE_RESERVED_OPERATOR + 1];
 
 static void fail(const uint8_t *text, size_t length, const char *format, ...)
 {
@@ -75,10 +75,23 @@ static uint8_t *put_text(const uint8_t *text, size_t length)
     return start;
 }
 
+/* Whether an answer can have the number. */
+static bool is_number(int number)
+{
+    return number <= RULE_CANONICAL_TOO_LONG || number == RULE_RESERVED_OPERATOR;
+}
+
+/* Whether a text begins with one of the reserved operators. */
+static bool is_reserved(const uint8_t *text, size_t length)
+{
+    return (length > 2 && memcmp(text, "or", 2) == 0)
+        || (length > 3 && (memcmp(text, "and", 3) == 0 || memcmp(text, "not", 3) == 0));
+}
+
 /* What both answers have in common; `written` is the count in items of the lent part, `lent` its length. */
 static void check_answer(const uint8_t *text, size_t length, struct rule_answer answer, size_t written, size_t lent)
 {
-    CHECK(answer.number <= 13, "number %d", answer.number);
+    CHECK(is_number(answer.number), "number %d", answer.number);
     if (answer.number == RULE_READ) {
         CHECK(answer.offset == 0, "read at %zu", answer.offset);
         CHECK(answer.count >= 1 && written <= lent, "count %zu in a lent part of %zu", answer.count, lent);
@@ -86,10 +99,12 @@ static void check_answer(const uint8_t *text, size_t length, struct rule_answer 
         CHECK(answer.count == 0, "refused %d with count %zu", answer.number, answer.count);
         if (answer.number == RULE_TEXT_TOO_LONG)
             CHECK(answer.offset == RULE_MAX_TEXT && length > RULE_MAX_TEXT, "refused 1 at %zu", answer.offset);
-        else if (answer.number >= RULE_TABLE_TOO_SHORT)
+        else if (answer.number == RULE_TABLE_TOO_SHORT || answer.number == RULE_CANONICAL_TOO_LONG)
             CHECK(answer.offset == 0, "refused %d at %zu", answer.number, answer.offset);
         else
             CHECK(answer.offset <= length, "refused %d at %zu", answer.number, answer.offset);
+        if (answer.number == RULE_RESERVED_OPERATOR)
+            CHECK(is_reserved(text + answer.offset, length - answer.offset), "refused 17 at %zu", answer.offset);
     }
     by_number[answer.number]++;
 }
@@ -269,7 +284,8 @@ static const char *const texts[] = {
     "let infix left 300 - ; prefix non 300 - ; in a end",
     "let infix right 400 - ; in a end",
     "let infix left 0 + ; in a end",
-    "let plain and ; infix left 0650 && ; in and && ( let in 'x y' end ) && 'and' end or 000",
+    "let plain * ; infix left 0650 && ; in * && ( let in 'x y' end ) && '*' end or 000",
+    "let infix left 0700 and ; plain or ; in a end",
     "let prefix right 1200 # ; postfix non 001 ? ; in # # ( ( a ? ) * ( 'b' ) ) end",
 };
 
@@ -299,7 +315,7 @@ static void try_random(int rounds)
     static const char *const tokens[] = {
         "a", "b", "'a'", "'not'", "7", "00", "(", ")", "( a )", "=", "<", "+", "-", "*", "and", "or", "not", "let", "in", "end",
         ";", "infix", "prefix", "postfix", "plain", "left", "right", "non", "400", "0400", "1200",
-        "let infix left 400 r ; in", "let prefix right 400 + ; in", "let plain - ; in", "a + b",
+        "let infix left 400 r ; in", "let prefix right 400 + ; in", "let plain - ; in", "let plain or ; in", "a + b",
     };
     static char text[4096];
     for (int round = 0; round < rounds; round++) {
@@ -345,7 +361,7 @@ static void expect(enum rule_number number, size_t offset, size_t count)
     long_text[0] = 0;
 }
 
-/* Document 01's limits, at the value and one past it, and its example of each refusal. */
+/* Document 01's limits, at the value and one past it, and its example of each refusal; document 02's reserved operators. */
 static void try_limits(void)
 {
     expect(RULE_NO_TREE, 0, 0);
@@ -370,6 +386,18 @@ static void try_limits(void)
     repeat("let infix left 1201 r ; in a end", 1); expect(RULE_BAD_DECLARATION, 15, 0);
     repeat("let infix left 0 + ; in a end", 1); expect(RULE_BAD_DECLARATION, 15, 0);
     repeat("let infix right 400 - ; in a end", 1); expect(RULE_BAD_OVERLOADING, 24, 0);
+    repeat("let plain and ; in a end", 1); expect(RULE_RESERVED_OPERATOR, 10, 0);
+    repeat("let infix left 700 and ; in a end", 1); expect(RULE_RESERVED_OPERATOR, 19, 0);
+    repeat("let prefix right 600 not ; in not a end", 1); expect(RULE_RESERVED_OPERATOR, 21, 0);
+    repeat("let postfix non 5 or ; in a end", 1); expect(RULE_RESERVED_OPERATOR, 18, 0);
+    repeat("let in let plain not ; in a end end", 1); expect(RULE_RESERVED_OPERATOR, 17, 0);
+    repeat("let infix right 400 - ; plain and ; in a end", 1); expect(RULE_RESERVED_OPERATOR, 30, 0);
+    repeat("let plain and ; infix left 0 r ; in a end", 1); expect(RULE_RESERVED_OPERATOR, 10, 0);
+    repeat("let plain and in a end", 1); expect(RULE_BAD_DECLARATION, 14, 0);
+    repeat("let plain 'and' ; in a end", 1); expect(RULE_BAD_DECLARATION, 10, 0);
+    repeat("let infix left 0 and ; in a end", 1); expect(RULE_BAD_DECLARATION, 15, 0);
+    repeat("let plain ands ; in a end", 1); expect(RULE_READ, 0, 2);
+    repeat("let plain And ; in a end", 1); expect(RULE_READ, 0, 2);
     repeat("a - - b", 1); expect(RULE_NO_TREE, 0, 0);
     for (int operators = 56; operators <= 57; operators++) {
         char declaration[40];
@@ -382,6 +410,20 @@ static void try_limits(void)
         /* The 57th new operator stands 15 bytes into the 57th declaration, of 21 bytes each. */
         if (operators == 56)
             expect(RULE_READ, 0, 2);
+        else
+            expect(RULE_TOO_MANY_OPERATORS, 4 + 56 * 21 + 15, 0);
+    }
+    /* A reserved operator before the 65th, and behind it. */
+    for (int before = 0; before < 2; before++) {
+        repeat("let ", 1);
+        for (int i = 10; i < 67; i++) {
+            char declaration[40];
+            snprintf(declaration, sizeof declaration, "%sinfix left 350 o%d ; ", before && i == 66 ? "plain or ; " : "", i);
+            repeat(declaration, 1);
+        }
+        repeat("plain or ; in a end", 1);
+        if (before)
+            expect(RULE_RESERVED_OPERATOR, 4 + 56 * 21 + 6, 0);
         else
             expect(RULE_TOO_MANY_OPERATORS, 4 + 56 * 21 + 15, 0);
     }
@@ -464,8 +506,9 @@ int main(void)
     try_random(20000);
 
     printf("%lu calls; by number:", calls);
-    for (int i = 0; i < 14; i++)
-        printf(" %lu", by_number[i]);
+    for (int i = 0; i <= RULE_RESERVED_OPERATOR; i++)
+        if (is_number(i))
+            printf(" %d: %lu", i, by_number[i]);
     printf("\n");
     return 0;
 }

@@ -63,11 +63,11 @@ fn nested_blocks() -> String {
     text + "a" + &" end".repeat(32)
 }
 
-/// 56 new operators and the eight starting ones again; 340 of the infix ones
-/// in a chain, precedences up and down.
+/// 56 new operators and eight declarations of starting ones; 340 of the new
+/// ones in a chain, precedences up and down.
 fn declared_operators() -> String {
     let mut text = String::from(
-        "let infix left 800 or ; infix left 700 and ; prefix right 600 not ; infix non 500 = ; \
+        "let prefix non 400 - ; prefix non 400 + ; postfix left 300 * ; infix non 500 = ; \
          infix non 500 < ; infix left 400 + ; infix left 400 - ; infix left 300 * ; ",
     );
     for i in 0..56 {

@@ -17,7 +17,7 @@ pub fn run(seed: u64, n: u64) -> Result<(), String> {
         item: |bits| (bits >> 32) as u32,
         items: NODE_WORDS,
         full: NODE_WORDS * MAX_TOKENS,
-        by_number: [0; 14],
+        by_number: [0; 18],
         differ: 0,
     };
     let mut canonical = Service {
@@ -26,7 +26,7 @@ pub fn run(seed: u64, n: u64) -> Result<(), String> {
         item: |bits| (bits >> 56) as u8,
         items: 1,
         full: reader::MAX_BYTES,
-        by_number: [0; 14],
+        by_number: [0; 18],
         differ: 0,
     };
     for _ in 0..n {
@@ -37,17 +37,20 @@ pub fn run(seed: u64, n: u64) -> Result<(), String> {
     reading.report(n).and(canonical.report(n))
 }
 
+/// A reader's service: a text in, a buffer of words or bytes out.
+type Call<T> = fn(&[u8], &mut [T]) -> Answer;
+
 /// Reading or canonical text, by the Rust reader and by the archive.
 struct Service<T> {
     name: &'static str,
-    calls: [fn(&[u8], &mut [T]) -> Answer; 2],
+    calls: [Call<T>; 2],
     /// A word or byte of the pattern that fills the buffer.
     item: fn(u64) -> T,
     /// How many words or bytes an answer's count stands for.
     items: usize,
     /// A length that is enough for every text.
     full: usize,
-    by_number: [u64; 14],
+    by_number: [u64; 18],
     differ: u64,
 }
 

@@ -1,8 +1,9 @@
-//! The reader of document 01: a text in, a node table or canonical text out.
+//! The reader of document 01, with document 02's reserved operators: a text
+//! in, a node table or canonical text out.
 //!
 //! Four linear passes: tokens (checks 1 to 5), nesting (6, 7), operators in
-//! force (8 to 10), trees (11). Nothing is written before check 12, or 13 for
-//! canonical text, has passed.
+//! force (8, 17, 9, 10), trees (11). Nothing is written before check 12, or 13
+//! for canonical text, has passed.
 
 pub mod canonical;
 pub mod list;
@@ -78,7 +79,8 @@ pub fn canonicalize(text: &[u8], buffer: &mut [u8]) -> Answer {
     Answer::new(analyzed.and_then(|()| canonical::write(text, &tokens, &tree, buffer)))
 }
 
-/// Checks 1 to 11: the resolved tokens and the tree's nodes, children first.
+/// Checks 1 to 11 and 17: the resolved tokens and the tree's nodes, children
+/// first.
 pub fn analyze(
     text: &[u8],
     tokens: &mut List<Token, MAX_TOKENS>,

@@ -112,6 +112,11 @@ fn start_table() -> Table {
     marks.map(|(mark, roles)| (mark.to_string(), roles)).into()
 }
 
+/// Document 02: no block declares these.
+fn not_reserved(mark: &Token) -> Result<(), Refusal> {
+    if ["and", "or", "not"].contains(&&mark.bytes[..]) { Err((17, mark.start)) } else { Ok(()) }
+}
+
 fn is_mark(token: &Token) -> bool {
     "w+".contains(token.class) && !["let", "in", "end"].contains(&&token.bytes[..])
 }
@@ -128,6 +133,7 @@ fn declare(mut table: Table, tokens: &[Token]) -> Result<Table, Refusal> {
         if kind == "plain" {
             let mark = need(1, &is_mark)?;
             need(2, &one_of(";"))?;
+            not_reserved(mark)?;
             table.remove(&mark.bytes);
             rest = &rest[3..];
             continue;
@@ -142,6 +148,7 @@ fn declare(mut table: Table, tokens: &[Token]) -> Result<Table, Refusal> {
         let level = need(2, &in_range)?.bytes.parse().unwrap();
         let mark = need(3, &is_mark)?;
         need(4, &one_of(";"))?;
+        not_reserved(mark)?;
         table.entry(mark.bytes.clone()).or_insert([None; 3])[fixity] = Some((level, side));
         if table.len() > 64 {
             return Err((9, mark.start));

@@ -14,13 +14,15 @@ fn same_seed_same_texts() {
 
 #[test]
 fn every_check_occurs() {
-    let mut seen = [0; 12];
+    let mut seen = [0; 18];
     let mut texts = Texts::new(3);
     for _ in 0..40_000 {
         seen[read(&texts.next(), &mut [0; 5120]).number as usize] += 1;
     }
     println!("answers by number: {seen:?}");
-    assert!(seen[0] > 12_000 && seen.iter().all(|&count| count >= 20), "{seen:?}");
+    let given = |number| number < 12 || number == 17;
+    let right = |(number, &count)| if given(number) { count >= 20 } else { count == 0 };
+    assert!(seen[0] > 12_000 && seen.iter().enumerate().all(right), "{seen:?}");
 }
 
 #[test]

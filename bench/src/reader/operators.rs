@@ -1,5 +1,5 @@
-//! Operators in force: declarations, and which tokens are operators. Checks 8
-//! to 10.
+//! Operators in force: declarations, and which tokens are operators. Checks 8,
+//! 17, 9 and 10, in this order.
 
 use super::role::{Infix, Left, Non, Postfix, Prefix, Right};
 use super::table::Table;
@@ -57,9 +57,7 @@ fn declaration(walk: &mut Walk, table: &mut Table) -> Result<(), Reject> {
         _ => None,
     })?;
     let Some(fixity) = fixity else {
-        let token = walk.next(operator_name)?;
-        walk.next(semicolon)?;
-        table.make_plain(&token);
+        table.make_plain(&walk.operator()?);
         return Ok(());
     };
     let associativity = walk.next(|word| match word {
@@ -70,8 +68,7 @@ fn declaration(walk: &mut Walk, table: &mut Table) -> Result<(), Reject> {
     })?;
     let text = walk.text;
     let precedence = walk.next(|number| precedence(text, number))?;
-    let token = walk.next(operator_name)?;
-    walk.next(semicolon)?;
+    let token = walk.operator()?;
     table.declare(&token, fixity, associativity, precedence);
     if table.in_force() > MAX_OPERATORS {
         return Err(Reject::new(9, token.start as usize));
@@ -95,10 +92,24 @@ impl Walk<'_> {
         self.at += 1;
         meaning(token).ok_or_else(|| Reject::new(8, token.start as usize))
     }
+
+    /// The operator of a declaration and the `;` behind it; then check 17.
+    #[inline(always)]
+    fn operator(&mut self) -> Result<Token, Reject> {
+        let token = self.next(operator_name)?;
+        self.next(semicolon)?;
+        if is_reserved(&token) { Err(Reject::new(17, token.start as usize)) } else { Ok(token) }
+    }
 }
 
 fn operator_name(token: &Token) -> Option<Token> {
     matches!(token.kind, Kind::Word | Kind::Sign).then_some(*token)
+}
+
+/// No block may declare these.
+#[inline(always)]
+fn is_reserved(token: &Token) -> bool {
+    token.is(b"and") || token.is(b"or") || token.is(b"not")
 }
 
 fn semicolon(token: &Token) -> Option<()> {

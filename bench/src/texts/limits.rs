@@ -108,27 +108,35 @@ fn depth(random: &mut Random, depth: usize) -> Tokens {
     front
 }
 
-/// Blocks with `count` operators in force at once, in the innermost.
+/// Blocks with `count` operators in force at once, in the innermost; some with
+/// a reserved operator declared before or behind the last of them.
 fn operators(random: &mut Random, count: usize) -> Tokens {
     let mut text = String::from("let ");
     let mut new = count - 8;
     if random.one_in(3) {
-        text += "plain or ; plain unknown ; ";
+        text += "plain < ; plain unknown ; ";
         new += 1;
     }
     if random.one_in(3) {
-        text += "infix left 400 - ; postfix left 400 - ; infix left 900 and ; ";
+        text += "infix left 400 - ; postfix left 400 - ; infix left 900 * ; ";
     }
+    let reserved = random.one_in(6).then(|| new - random.index(3));
     for i in 0..new {
+        if reserved == Some(i) {
+            text += random.pick::<&str>(&["infix left 800 or ; ", "plain and ; ", "prefix right 600 not ; "]);
+        }
         let precedence = 1 + random.below(1200);
         text += &format!("infix left {precedence} o{i} ; ");
         match random.below(60) {
             0 => text += &format!("postfix left {precedence} o{i} ; "),
             1 => text += &format!("plain o{i} ; infix right {precedence} o{i} ; "),
             2 => text += "in a + let ",
-            3 => text += "in a end + let plain and ; prefix non 1 and ; ",
+            3 => text += "in a end + let plain = ; prefix non 1 = ; ",
             _ => {}
         }
+    }
+    if reserved == Some(new) {
+        text += "postfix left 700 and ; ";
     }
     text += "in a";
     for _ in 0..random.below(40) {

@@ -25,11 +25,14 @@ struct Operator {
     roles: Roles,
 }
 
-/// Names for operators. Those that look alike have the same bytes in part, or
-/// the same ones in another order.
+/// The reserved operators: a block that declares one is refused.
+const RESERVED: &[&str] = &["and", "or", "not"];
+
+/// Names for other operators. Those that look alike have the same bytes in
+/// part, or the same ones in another order.
 const NAMES: &[&str] = &[
-    "or", "and", "not", "=", "<", "+", "-", "*", "-", "+", "s", "p", "r", "xor", "==>", "!", "?", "<=",
-    "infix", "left", "plain", "non", "o", "p_______q", "q_______p", "p_______", "inn", "Let",
+    "=", "<", "+", "-", "*", "-", "+", "s", "p", "r", "xor", "==>", "!", "?", "<=", "infix", "left", "plain",
+    "non", "o", "And", "ands", "an", "ro", "no", "p_______q", "q_______p", "p_______", "inn", "Let",
     "w12345678901234567890123456789012345678901234567890123456789012",
     "w12345678901234567890123456789012345678901234567890123456789013",
 ];
@@ -168,10 +171,11 @@ impl Rules<'_> {
     }
 
     fn leaf(&mut self) -> Expression {
-        let leaf = match self.random.below(10) {
-            0 => self.name(NAMES),
-            1 | 2 if !self.declared.is_empty() => self.name(&self.declared.clone()),
-            3 => format!("{}{}", self.zeros(), self.random.below(1000)),
+        let leaf = match self.random.below(100) {
+            0 => self.name(RESERVED),
+            1..10 => self.name(NAMES),
+            10..30 if !self.declared.is_empty() => self.name(&self.declared.clone()),
+            30..40 => format!("{}{}", self.zeros(), self.random.below(1000)),
             _ => self.random.pick(LEAVES).to_string(),
         };
         Expression { tokens: vec![leaf.into()], precedence: 0, right: false }
@@ -225,8 +229,10 @@ impl Rules<'_> {
         }
     }
 
+    /// A reserved operator seldom, or too few blocks would be read.
     fn declaration(&mut self, tokens: &mut Tokens) {
-        let name = *self.random.pick(NAMES);
+        let names = if self.random.one_in(60) { RESERVED } else { NAMES };
+        let name = *self.random.pick(names);
         if self.random.one_in(7) {
             return self.make_plain(name, tokens);
         }
@@ -272,7 +278,7 @@ impl Rules<'_> {
         }
     }
 
-    /// Adds a declaration that is mostly malformed.
+    /// Adds a declaration that is mostly malformed or of a reserved operator.
     fn spoil(&mut self, tokens: &mut Tokens) {
         const SPOILT: &[&str] = &[
             "infix left 0 s ;", "infix left 1201 s ;", "prefix right 0000 s ;", "postfix non 999999999 s ;",
@@ -281,7 +287,10 @@ impl Rules<'_> {
             "infix left 400 7 ;", "infix left 400 s", "infix left 400 s s ;", "infix left s ;",
             "infix 400 left s ;", "plain ;", "plain 's' ;", "plain in ;", "plain s", "left infix 400 s ;",
             ";", "infix", "'infix' left 4 s ;", "plain let ;", "plain end ;", "infix left 400 ( ;",
-            "INFIX left 400 s ;", "plain unknown ;",
+            "INFIX left 400 s ;", "plain unknown ;", "plain and", "plain 'and' ;", "plain or or ;",
+            "infix left 0 and ;", "prefix left 600 not ;", "infix left 700 and", "infix left 'or' ;",
+            "plain not ;", "infix left 700 and ;", "postfix left 700 and ;", "prefix right 600 not ;",
+            "infix right 1200 or ;", "plain or ; plain s", "plain s plain or ;",
         ];
         let spoilt = self.random.pick(SPOILT);
         tokens.extend(spoilt.split(' ').map(|token| token.into()));
