@@ -22,7 +22,7 @@ use Rattle.reader.specs.Answered.{nodeCharacters}
 -- call, `B′` after it. Which operators are reserved (document 02, §9) is a parameter.
 pub record RightAnswerReserving
     (reserved : Bytes → Bool) (own : ℕ) (Fits : Tree → Type 0) (text : Bytes) (B B′ : List ℕ) (a : Answer)
-  : Type 0 where
+    : Type 0 where
   -- There is no other number.
   pub known : (a .number ≤ 11) ⊎ ((a .number ≡ 17) ⊎ (a .number ≡ own))
   -- Rows 1 to 10 and 17, and only these, where documents 01 and 02 call for them.
@@ -76,7 +76,7 @@ pub record BufferHolds (B B′ : List ℕ) (c : ℕ) (t : Tree) : Type 0 where
 -- All that is asked of a call: the answer, and that the buffer holds the tree of a text that is read.
 pub record Right
     (reserved : Bytes → Bool) (own : ℕ) (Fits : Tree → Type 0) (Holds : List ℕ → ℕ → Tree → Type 0) (text : Bytes) (B B′ : List ℕ) (a : Answer)
-  : Type 0 where
+    : Type 0 where
   pub answers : RightAnswerReserving reserved own Fits text B B′ a
   pub held : a .number ≡ 0 → (t : Tree) → TreeReserving reserved text t → Holds B′ (a .count) t
 

@@ -338,15 +338,15 @@ fn resolve_block<'a>(
             Parsed::Clears { place: operator } => {
                 let m = at + 1;
                 let size = tokens::size(tokens, m);
-                let name = walk::token_at(text, operator, size);
-                if reserved::is_reserved(name) {
+                let cleared = walk::token_at(text, operator, size);
+                if reserved::is_reserved(cleared) {
                     return Resolved::Refused {
                         number: RESERVED_OPERATOR,
                         at: m,
                     };
                 }
                 let count = t.count;
-                t = t.clear(table::find(text, &t.words, &t.hints, count, name));
+                t = t.clear(table::find(text, &t.words, &t.hints, count, cleared));
                 place = behind_semicolon(text, operator, size);
                 at += 3;
             }

@@ -20,9 +20,16 @@ reserved-count = 3
 first-reserved : (n : ℕ) → n < 8 → n < reserved-count → isReserved (getD operator-names n []) ≡ true
 unfolding isReserved same
 first-reserved =
-    each (λ n. n < reserved-count → isReserved (getD operator-names n []) ≡ true)
-    ((λ h. refl), (λ h. refl), (λ h. refl), (λ h. absurd (omega arith)), (λ h. absurd (omega arith)), (λ h. absurd (omega arith)),
-    (λ h. absurd (omega arith)), (λ h. absurd (omega arith)))
+    each (λ n. n < reserved-count → isReserved (getD operator-names n []) ≡ true) (
+      (λ h. refl),
+      (λ h. refl),
+      (λ h. refl),
+      (λ h. absurd (omega arith)),
+      (λ h. absurd (omega arith)),
+      (λ h. absurd (omega arith)),
+      (λ h. absurd (omega arith)),
+      (λ h. absurd (omega arith)),
+    )
 
 module _ (name : Bytes) where
   pub numbered-reserved : startNumber name < reserved-count → true ≡ isReserved name
@@ -37,8 +44,8 @@ module _ (name : Bytes) where
       let or = same name (bytes "or") in
       ⊎-elim
       (λ d.
-          ⊎-elim (λ h. numbered 1 (omega arith) (omega arith) (same-eq name (bytes "and") h))
-          (λ h. numbered 0 (omega arith) (omega arith) (same-eq name (bytes "or") h)) (or-cases and or d))
+      ⊎-elim (λ h. numbered 1 (omega arith) (omega arith) (same-eq name (bytes "and") h))
+      (λ h. numbered 0 (omega arith) (omega arith) (same-eq name (bytes "or") h)) (or-cases and or d))
       (λ h. numbered 2 (omega arith) (omega arith) (same-eq name (bytes "not") h))
       (or-cases (and || or) (same name (bytes "not")) e)
     where

@@ -538,15 +538,6 @@ module _ (t : ℕ) where
   block-is-reserved-requires : resolve-block-lts.Need-is-reserved-requires (block-calls t) (resolve-block-at t) resolve-block.Post Inv-declarations μ-declarations
   block-is-reserved-requires c κs = search needs
 
-  block-returns-3 : resolve-block-lts.Need-returns-3 (block-calls t) (resolve-block-at t) resolve-block.Post Inv-declarations μ-declarations
-  block-returns-3 c =
-      let r = c .before in
-      let n = r .before in
-      let w = role-turn n in
-      answers-refused _ _ _ _ _ _ _ _ _
-      (role-reserved (w .before .loop .inv) (not-in w) (role (role-of n)) (sized n .size .ensures)
-      (ap isReserved (sym (n .token-at .ensures)) ∙ sym (r .is-reserved .ensures) ∙ c .if2 .taken))
-
   free :
       (c : resolve-block-lts.Else2 (block-calls t) (resolve-block-at t) resolve-block.Post Inv-declarations μ-declarations)
       → let n = c .before .before in
@@ -555,6 +546,15 @@ module _ (t : ℕ) where
   free c =
       let r = c .before in
       ap isReserved (sym (r .before .token-at .ensures)) ∙ sym (r .is-reserved .ensures) ∙ c .if2 .left
+
+  block-returns-3 : resolve-block-lts.Need-returns-3 (block-calls t) (resolve-block-at t) resolve-block.Post Inv-declarations μ-declarations
+  block-returns-3 c =
+      let r = c .before in
+      let n = r .before in
+      let w = role-turn n in
+      answers-refused _ _ _ _ _ _ _ _ _
+      (role-reserved (w .before .loop .inv) (not-in w) (role (role-of n)) (sized n .size .ensures)
+      (ap isReserved (sym (n .token-at .ensures)) ∙ sym (r .is-reserved .ensures) ∙ c .if2 .taken))
 
   -- Behind that test, what is found of the name.
   abbrev unreserved :
@@ -699,15 +699,6 @@ module _ (t : ℕ) where
   block-is-reserved-requires-2 : resolve-block-lts.Need-is-reserved-requires-2 (block-calls t) (resolve-block-at t) resolve-block.Post Inv-declarations μ-declarations
   block-is-reserved-requires-2 c κs = search needs
 
-  block-returns-5 : resolve-block-lts.Need-returns-5 (block-calls t) (resolve-block-at t) resolve-block.Post Inv-declarations μ-declarations
-  block-returns-5 c =
-      let r = c .before in
-      let n = r .before in
-      let w = clears-turn n in
-      answers-refused _ _ _ _ _ _ _ _ _
-      (cleared-reserved (w .before .loop .inv) (not-in w) (clears (n .before .before .before)) (n .before .size2 .ensures)
-      (ap isReserved (sym (n .token-at2 .ensures)) ∙ sym (r .is-reserved2 .ensures) ∙ c .if5 .taken))
-
   clears-free :
       (c : resolve-block-lts.Else5 (block-calls t) (resolve-block-at t) resolve-block.Post Inv-declarations μ-declarations)
       → let n = c .before .before in
@@ -717,6 +708,15 @@ module _ (t : ℕ) where
   clears-free c =
       let r = c .before in
       ap isReserved (sym (r .before .token-at2 .ensures)) ∙ sym (r .is-reserved2 .ensures) ∙ c .if5 .left
+
+  block-returns-5 : resolve-block-lts.Need-returns-5 (block-calls t) (resolve-block-at t) resolve-block.Post Inv-declarations μ-declarations
+  block-returns-5 c =
+      let r = c .before in
+      let n = r .before in
+      let w = clears-turn n in
+      answers-refused _ _ _ _ _ _ _ _ _
+      (cleared-reserved (w .before .loop .inv) (not-in w) (clears (n .before .before .before)) (n .before .size2 .ensures)
+      (ap isReserved (sym (n .token-at2 .ensures)) ∙ sym (r .is-reserved2 .ensures) ∙ c .if5 .taken))
 
   -- Behind that test, what the table has of it.
   block-find-requires-2 : resolve-block-lts.Need-find-requires-2 (block-calls t) (resolve-block-at t) resolve-block.Post Inv-declarations μ-declarations
