@@ -233,7 +233,7 @@ module _ {text : Bytes} {K R O : List ℕ} {n : ℕ} (t : Tokenized text K R O n
         λ j l k. let b = f j l in omega arith,
       )
 
--- Checks 8 to 10.
+-- Checks 8 to 10 and 17.
 module _ {text : Bytes} {K R O : List ℕ} {n : ℕ} {nested : Bool} (m : Matched text K R O n nested) where
   abbrev own : List Placed
   own = m .scanned .placed

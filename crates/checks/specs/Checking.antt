@@ -1,4 +1,4 @@
--- Checks 2 to 11: what is asked of the rows at each stage, what is answered, and what the rows hold of a text that is read.
+-- Checks 2 to 11 and 17: what is asked of the rows at each stage, what is answered, and what the rows hold of a text that is read.
 use mathlib.Core.Path.{_≡_}
 use mathlib.Core.Bool.{Bool, true, false}
 use mathlib.Core.List.{List, []}
@@ -50,7 +50,7 @@ pub record Matched (text : Bytes) (K R O : List ℕ) (n : ℕ) (nested : Bool) :
   pub paired : Paired K 0 n
   pub flat : nested ≡ false → (j : ℕ) → j < n → kind K j ≤ 3
 
--- After checks 8 to 10: and the roles in force.
+-- After checks 8 to 10 and 17: and the roles in force.
 pub record Classified (text : Bytes) (K R O : List ℕ) (n : ℕ) (nested : Bool) : Type 0 where
   pub matched : Matched text K R O n nested
   pub declared : checkBlocks (suc n) startTable 0 (tokensOf (matched .scanned .placed)) ≡ passed tt

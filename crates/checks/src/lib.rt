@@ -1,4 +1,4 @@
-// Refusals 2 to 11 in their order, over lent rows.
+// Refusals 2 to 11 and 17 in their order, over lent rows.
 use climb::spans;
 use climb::spans::Spans;
 use pairing::Paired;
@@ -74,7 +74,7 @@ fn check_spans(
     }
 }
 
-// Checks 8 to 11.
+// Checks 8 to 11 and 17.
 fn check_blocks(
     text: &[u8],
     tokens: &[u16],
@@ -96,7 +96,7 @@ fn check_blocks(
     }
 }
 
-// Checks 6 to 11.
+// Checks 6 to 11 and 17.
 fn check_tokens(
     text: &[u8],
     tokens: &mut [u16],
@@ -116,7 +116,7 @@ fn check_tokens(
     }
 }
 
-// Checks 2 to 11 of a text that is not too long.
+// Checks 2 to 11 and 17 of a text that is not too long.
 pub fn check(text: &[u8], tokens: &mut [u16], roles: &mut [u16], roots: &mut [u16]) -> Checked
     requires { ⌜ Checkable (now text) (now tokens) (now roles) (now roots) ⌝ }
     ensures { λ r. ⌜ Checking (now (text .entry)) (now (tokens .exit)) (now (roles .exit)) (now (roots .exit)) r ⌝ }

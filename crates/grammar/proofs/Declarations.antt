@@ -294,46 +294,37 @@ room-alike : (T : Table) (d d′ : Declaration) → declare T d ≡ declare T d�
 unfolding hasRoom
 room-alike T d d′ e = rw e
 
-module _ (k : ℕ) (T : Table) (i : ℕ) (ts : List Token) {d : Declaration} {rest : List Token} (h : declaration ts ≡ parsed d rest) where
-  declaration-step :
-      enter (suc k) T i ts
-      ≡ elim (isReserved (operatorOf d)) [
-        | true ↦ refused 17 (i + operatorPlace d)
-        | false ↦
-            elim (hasRoom T d) [
-              | true ↦ enter k (declare T d) (i + length (declarationTokens d)) rest
-              | false ↦ refused 9 (i + operatorPlace d)
-            ]
-      ]
-  unfolding enter declaration
-  declaration-step = go ts h
-    where
-      go :
-          (ts : List Token) → declaration ts ≡ parsed d rest
-          → enter (suc k) T i ts
-          ≡ elim (isReserved (operatorOf d)) [
-            | true ↦ refused 17 (i + operatorPlace d)
-            | false ↦
-                elim (hasRoom T d) [
-                  | true ↦ enter k (declare T d) (i + length (declarationTokens d)) rest
-                  | false ↦ refused 9 (i + operatorPlace d)
-                ]
+abbrev judged : ℕ → Table → ℕ → Declaration → List Token → Outcome Table
+judged k T i d rest =
+    elim (isReserved (operatorOf d)) [
+      | true ↦ refused 17 (i + operatorPlace d)
+      | false ↦
+          elim (hasRoom T d) [
+            | true ↦ enter k (declare T d) (i + length (declarationTokens d)) rest
+            | false ↦ refused 9 (i + operatorPlace d)
           ]
-      go [] h = absurd (no-parse h)
-      go (t ∷ ts) h = rw (h, enter) refl
+    ]
 
-  -- It names a reserved operator, or not.
+declaration-step :
+    (k : ℕ) (T : Table) (i : ℕ) (ts : List Token) {d : Declaration} {rest : List Token} → declaration ts ≡ parsed d rest
+    → enter (suc k) T i ts ≡ judged k T i d rest
+unfolding enter declaration
+declaration-step k T i [] h = absurd (no-parse h)
+declaration-step k T i (t ∷ ts) h = rw (h, enter) refl
+
+-- It names a reserved operator, or not.
+module _ (k : ℕ) (T : Table) (i : ℕ) (ts : List Token) {d : Declaration} {rest : List Token} (h : declaration ts ≡ parsed d rest) where
   pub enter-reserved : isReserved (operatorOf d) ≡ true → enter (suc k) T i ts ≡ refused 17 (i + operatorPlace d)
-  enter-reserved r = declaration-step ∙ rw r refl
+  enter-reserved r = declaration-step k T i ts h ∙ rw (r, judged) refl
 
   pub enter-step :
-      isReserved (operatorOf d) ≡ false
+      Free d
       → enter (suc k) T i ts
       ≡ elim (hasRoom T d) [
         | true ↦ enter k (declare T d) (i + length (declarationTokens d)) rest
         | false ↦ refused 9 (i + operatorPlace d)
       ]
-  enter-step r = declaration-step ∙ rw r refl
+  enter-step r = declaration-step k T i ts h ∙ rw (r, judged) refl
 
 -- Checks 8 to 10 and 17 passed: the tokens are those of declarations, none of a reserved operator, and what is in force behind them
 -- satisfies the four conditions.

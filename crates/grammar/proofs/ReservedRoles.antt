@@ -1,14 +1,32 @@
 -- The reserved operators have, in every span of a text past checks 1 to 10 and 17, the roles that they start with. A declaration that the
 -- checks let pass names another operator, and it changes the roles of that one alone; so the bodies of blocks keep them, from the outermost in.
+-- As they are always in force, a declaration of one of them could not be one too many: rows 17 and 9 never meet in one declaration.
 use mathlib.Core.Path.{_≡_, refl, sym, ap, _∙_}
-use mathlib.Core.Bool.{Bool, true, false}
+use mathlib.Core.Bool.{Bool, true, false, _||_}
+use mathlib.Core.Logic.{_⊎_, inl, inr, ⊎-elim}
 use mathlib.Core.List.{List, [], _∷_}
-use Prim.Native.Nat.{ℕ, zero, suc}
+use Prim.Native.Nat.{ℕ, zero, suc, _≤_}
 use native.Mathlib.Omega.{arith}
 use lib.ListN.{length}
-use Rattle.grammar.specs.Bytes.{Bytes, same, All}
+use Rattle.grammar.specs.Bytes.{Bytes, bytes, same, All}
 use Rattle.grammar.specs.Token.{Token}
-use Rattle.grammar.specs.Operator.{Fixity, Table, role}
+use Rattle.grammar.specs.Operator.{
+  Fixity,
+  Prefix,
+  Infix,
+  Postfix,
+  Role,
+  Table,
+  role,
+  isSome,
+  hasRole,
+  inForce,
+  sameFixity,
+  replaced,
+  declareRole,
+  removeRoles,
+  listed,
+}
 use Rattle.grammar.specs.Declaration.{
   Declaration,
   declares,
@@ -17,7 +35,9 @@ use Rattle.grammar.specs.Declaration.{
   declareAll,
   declarations,
   allTokens,
+  startDeclarations,
   startTable,
+  value,
   operatorOf,
   isReserved,
   Free,
@@ -27,9 +47,9 @@ use Rattle.grammar.specs.Spans.{Span, SpanIn, itself, inPair, inBody, Sp
 use Rattle.grammar.specs.Blocks.{bodyTable}
 use Rattle.grammar.specs.Fault.{Past}
 use Rattle.grammar.specs.Answer.{tokensOf}
-use Rattle.grammar.proofs.Logic.{clash, same-eq}
+use Rattle.grammar.proofs.Logic.{clash, same-eq, or-cases}
 use Rattle.grammar.proofs.Scanned.{length-tokens}
-use Rattle.grammar.proofs.Operators.{role-declared-other, role-removed-other}
+use Rattle.grammar.proofs.Operators.{role-declared-other, role-removed-other, alive-start, alive-declared, listed-in-force}
 use Rattle.grammar.proofs.DeclarationTokens.{declarations-told}
 use Rattle.grammar.proofs.Nested.{nesting-anywhere}
 use Rattle.grammar.proofs.ItemsRelation.{items-only}
@@ -76,3 +96,57 @@ module _ (m : Bytes) (reserved : isReserved m ≡ true) (f : Fixity) where
       let under : PastUnder (suc (length ps)) startTable (tokensOf ps) =
       ((λ j. nesting-anywhere (tokensOf ps) [] 0 j (c .nested)), omega arith, (0, c .declared)) in
       span-keeps h (suc (length ps)) ts (items-only ts is i) (rw e at under)
+
+-- A declaration of an operator that is listed leaves no more operators than there were.
+declared-length : (m : Bytes) (f : Fixity) (r : Role) (T : Table) → listed m T ≡ true → length (declareRole m f r T) ≡ length T
+unfolding listed declareRole
+declared-length m f r [] h = absurd (clash h refl)
+declared-length m f r (o ∷ T) h = go (same m (o .name)) refl (declared-length m f r T)
+  where
+    go :
+        (b : Bool) → same m (o .name) ≡ b → (listed m T ≡ true → length (declareRole m f r T) ≡ length T)
+        → length (declareRole m f r (o ∷ T)) ≡ length (o ∷ T)
+    go true e k = rw (e, declareRole)
+    go false e k = rw (e, declareRole) (ap suc (k (rw (e, listed) at h)))
+
+removed-length : (m : Bytes) (T : Table) → length (removeRoles m T) ≤ length T
+unfolding removeRoles
+removed-length m [] = omega arith
+removed-length m (o ∷ T) = go (same m (o .name)) refl (removed-length m T)
+  where
+    go : (b : Bool) → same m (o .name) ≡ b → length (removeRoles m T) ≤ length T → length (removeRoles m (o ∷ T)) ≤ length (o ∷ T)
+    go true e k = rw (e, removeRoles) (omega arith)
+    go false e k = rw (e, removeRoles) (omega arith)
+
+-- The reserved operators are in force at the start, and behind declarations of others.
+pub reserved-names : (m : Bytes) → isReserved m ≡ true → (m ≡ bytes "and") ⊎ ((m ≡ bytes "or") ⊎ (m ≡ bytes "not"))
+unfolding isReserved
+reserved-names m e =
+    let and = same m (bytes "and") in
+    let or = same m (bytes "or") in
+    ⊎-elim
+    (λ d. ⊎-elim (λ h. inl (same-eq m (bytes "and") h)) (λ h. inr (inl (same-eq m (bytes "or") h))) (or-cases and or d))
+    (λ h. inr (inr (same-eq m (bytes "not") h)))
+    (or-cases (and || or) (same m (bytes "not")) e)
+
+reserved-starts : (m : Bytes) → isReserved m ≡ true → inForce startTable m ≡ true
+unfolding inForce hasRole isSome role startTable startDeclarations declareAll declare declareRole replaced sameFixity same
+reserved-starts m e = ⊎-elim (λ h. rw h refl) (⊎-elim (λ h. rw h refl) (λ h. rw h refl)) (reserved-names m e)
+
+reserved-listed : (m : Bytes) → isReserved m ≡ true → (ds : List Declaration) → All Free ds → listed m (declareAll startTable ds) ≡ true
+unfolding inForce hasRole
+reserved-listed m e ds free =
+    let T = declareAll startTable ds in
+    let keeps : (f : Fixity) → role T m f ≡ role startTable m f = λ f. declarations-keep m e f startTable ds free in
+    listed-in-force T (alive-declared startTable ds alive-start) m
+    ∙ rw (keeps Prefix, keeps Infix, keeps Postfix) refl
+    ∙ reserved-starts m e
+
+-- Behind declarations that pass check 17, a declaration of a reserved operator is never the 65th operator.
+pub reserved-adds-none :
+    (ds : List Declaration) → All Free ds → (d : Declaration) → isReserved (operatorOf d) ≡ true
+    → length (declare (declareAll startTable ds) d) ≤ length (declareAll startTable ds)
+unfolding declare operatorOf
+reserved-adds-none ds free (declares f a c m) e =
+    omega (arith, declared-length m f (record { precedence = value c; associativity = a }) (declareAll startTable ds) (reserved-listed m e ds free))
+reserved-adds-none ds free (clears m) e = removed-length m (declareAll startTable ds)

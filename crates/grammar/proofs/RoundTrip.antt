@@ -1,4 +1,4 @@
--- Canonical text: it passes checks 1 to 11 again and reads back to the tree without its spare brackets; two canonical texts are
+-- Canonical text: it passes checks 1 to 11 and 17 again and reads back to the tree without its spare brackets; two canonical texts are
 -- the same bytes exactly where the trees agree.
 use mathlib.Core.Path.{_≡_, refl, sym, ap, _∙_}
 use mathlib.Core.Logic.{_↔_}

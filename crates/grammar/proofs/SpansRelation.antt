@@ -1,4 +1,4 @@
--- The list of a text's spans is the relation: for tokens past checks 6 to 10 the spans of the text are those listed.
+-- The list of a text's spans is the relation: for tokens past checks 6 to 10 and 17 the spans of the text are those listed.
 -- Either way a span is the whole one or one in an item, whose items are those that the walk finds and whose declarations are those read.
 use mathlib.Core.Path.{_≡_, refl, sym, ap, _∙_}
 use mathlib.Core.Logic.{_↔_, _⊎_, inl, inr}
@@ -24,7 +24,7 @@ use Rattle.grammar.proofs.Nested.{nesting-anywhere}
 use Rattle.grammar.proofs.ItemsRelation.{items-of, items-only}
 use Rattle.grammar.proofs.TextSound.{Nested, Known, known-items, pair-within, scope-within}
 
--- Tokens past checks 6 to 10 and 17 under the operators `T`, with fuel `k` that is enough.
+-- Tokens past checks 6 to 10 and 17 and 17 under the operators `T`, with fuel `k` that is enough.
 abbrev pub PastUnder : ℕ → Table → List Token → Type 0
 PastUnder k T ts = Nested ts × (length ts < k) × ((n : ℕ) × (checkBlocks k T n ts ≡ passed tt))
 
@@ -162,7 +162,7 @@ listed-in : (k : ℕ) → ListedIn k
 listed-in zero s ts c p r m = absurd (omega arith)
 listed-in (suc k) s ts c p r m = span-listed-in k (listed-in k) s ts c p r m
 
--- The spans of a text past checks 6 to 10 are those listed.
+-- The spans of a text past checks 6 to 10 and 17 are those listed.
 pub span-listed :
     (ts : List Token) → nesting [] 0 ts ≡ passed tt → checkBlocks (suc (length ts)) startTable 0 ts ≡ passed tt → (s : Span)
     → SpanOf ts s ↔ List·Memᴰ s (spans (suc (length ts)) startTable none 0 ts)

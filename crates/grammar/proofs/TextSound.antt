@@ -1,4 +1,4 @@
--- What the search finds for a text past checks 6 to 10 is a tree of the text's own tokens.
+-- What the search finds for a text past checks 6 to 10 and 17 is a tree of the text's own tokens.
 use mathlib.Core.Path.{_≡_, refl, sym, ap, ap₂, _∙_}
 use mathlib.Core.List.{List, [], _∷_, _++_, append-nil}
 use mathlib.Core.Option.{Option, none, some}
@@ -33,7 +33,7 @@ Nested = Passes []
 abbrev pub Inside : ℕ → Item → Type 0
 Inside j x = ItemNested x × (length (itemTokens x) ≤ j)
 
--- And what checks 8 to 10 say of it.
+-- And what checks 8 to 10 and 17 say of it.
 abbrev pub Known : ℕ → Table → Item → Type 0
 Known j T x = Inside j x × CheckedBy (checkBlocks j) T x
 

@@ -1,4 +1,4 @@
--- Checks 8 to 10, seen from a tree: its tokens pass them exactly where the declarations of each of its blocks do.
+-- Checks 8 to 10 and 17, seen from a tree: its tokens pass them exactly where the declarations of each of its blocks do.
 use mathlib.Core.Path.{_≡_, refl, sym, ap, _∙_}
 use mathlib.Core.Bool.{Bool, true, false}
 use mathlib.Core.List.{List, [], _∷_, map}

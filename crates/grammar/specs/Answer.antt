@@ -50,14 +50,14 @@ unfoldable pub readSpans : Bytes → List Placed → Option Tree → Outcome Rea
 readSpans text ps (some t) = passed (record { tokens = ps; tree = t })
 readSpans text ps none = refused 11 (spanOffset text ps (treelessOpener (spansOf ps)))
 
--- Checks 6 to 11.
+-- Checks 6 to 11 and 17.
 unfoldable pub readTokens : Bytes → List Placed → Outcome Reading
 readTokens text ps =
     andThen (placed (offsetOf text ps) (nesting [] 0 (tokensOf ps))) (λ u.
     andThen (placed (offsetOf text ps) (checkBlocks (suc (length ps)) startTable 0 (tokensOf ps))) (λ v.
     readSpans text ps (treeOf startTable (tokensOf ps))))
 
--- "Order: 1; 2 to 5 ..; 6 and 7 ..; then blocks ..; then 11 ..": checks 1 to 11. Places are byte offsets.
+-- "Order: 1; 2 to 5 ..; 6 and 7 ..; then blocks ..; then 11 ..": checks 1 to 11 and 17. Places are byte offsets.
 unfoldable pub readText : Bytes → Outcome Reading
 readText text =
     elim (leb (length text) longestText) [
@@ -65,7 +65,7 @@ readText text =
       | false ↦ refused 1 longestText
     ]
 
--- A text and its tokens that checks 1 to 10 let pass.
+-- A text and its tokens that checks 1 to 10 and 17 let pass.
 pub record PastChecks (text : Bytes) (ps : List Placed) : Type 0 where
   pub short : length text ≤ longestText
   pub scanned : scan mostTokens 0 text ≡ passed ps

@@ -1,4 +1,4 @@
--- A text's blocks and spans in order: refusals 8 to 11, and the tree of a text. Places are token numbers.
+-- A text's blocks and spans in order: refusals 8 to 11 and 17, and the tree of a text. Places are token numbers.
 use mathlib.Core.List.{List, [], _∷_, _++_}
 use mathlib.Core.Option.{Option, none, some}
 use Prim.Native.Nat.{ℕ, zero, suc, _+_}
@@ -18,8 +18,8 @@ use Rattle.grammar.specs.Climb.{climb}
 unfoldable pub bodyTable : Table → List Token → Table
 bodyTable T ds = declareAll T (declarations ds)
 
--- "then blocks by their `let`, each declaration complete .. (8, then 9), then 10". The first number is fuel: no less than the
--- depth. `i` is the number of the first token.
+-- "then blocks by their `let`, each declaration complete .. (8, then 9), then 10", 17 between 8 and 9. The first number is fuel: no
+-- less than the depth. `i` is the number of the first token.
 module _ (inner : Table → ℕ → List Token → Outcome (Unit {0})) where
   unfoldable pub checkItem : Table → ℕ → Item → Outcome (Unit {0})
   checkItem T i (single a) = passed tt

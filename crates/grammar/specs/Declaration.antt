@@ -1,4 +1,5 @@
--- Document 01, "Marks and blocks": declarations, what they do to the operators in force, and refusals 8, 9 and 10. Document 02, §9: refusal 17.
+-- Document 01, "Marks and blocks": declarations, what they do to the operators in force, and refusals 8, 9 and 10. Document 02, §9:
+-- refusal 17.
 use mathlib.Core.Path.{_≡_}
 use mathlib.Core.Bool.{Bool, true, false, _&&_, _||_}
 use mathlib.Core.List.{List, [], _∷_, _++_}
@@ -207,6 +208,7 @@ operatorOf (clears m) = m
 unfoldable pub isReserved : Bytes → Bool
 isReserved m = same m (bytes "and") || same m (bytes "or") || same m (bytes "not")
 
+-- A declaration of another operator.
 abbrev pub Free : Declaration → Type 0
 Free d = isReserved (operatorOf d) ≡ false
 

@@ -137,7 +137,8 @@ pub data FaultReserving (reserved : Bytes → Bool) (text : Bytes) : ℕ → ℕ
 abbrev pub BeforeEleven : ℕ → Type 0
 BeforeEleven n = ((1 ≤ n) × (n ≤ 10)) ⊎ (n ≡ 17)
 
--- "a text is past checks 1 to 10 when nothing that comes before 11 in the order of refusals holds of it": the text and its tokens.
+-- "a text is past checks 1 to 10 when nothing that comes before 11 in the order of refusals holds of it", so 17 is among
+-- them: the text and its tokens.
 pub record PastReserving (reserved : Bytes → Bool) (text : Bytes) (ts : List Token) : Type 0 where
   pub spelled : Spells text ts
   pub faultless : (n p : ℕ) → FaultReserving reserved text n p → ⊥

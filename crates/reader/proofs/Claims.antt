@@ -9,7 +9,6 @@ use mathlib.Core.Logic.{_↔_}
 use mathlib.Core.Bool.{true}
 use mathlib.Core.List.{List}
 use Prim.Native.Nat.{ℕ, _≤_}
-use native.Mathlib.Omega.{arith}
 use lib.ListN.{length, take}
 use Rattle.grammar.specs.Bytes.{Bytes}
 use Rattle.grammar.specs.Token.{Token, isNumber}
@@ -34,7 +33,7 @@ use Rattle.reader.specs.Answered.{Reads, Canonicalizes}
 use Rattle.reader.specs.Demands.{RightAnswer, TableFits, BufferFits, TableHolds, BufferHolds, RightReading, RightCanonical}
 use Rattle.reader.proofs.ReadCalls as ReadCalls
 use Rattle.reader.proofs.CanonicalCalls as CanonicalCalls
-use Rattle.reader.proofs.Settled.{table-settled, buffer-settled, settled, right-alike}
+use Rattle.reader.proofs.Settled as Settled
 
 -- Demand 1. Whatever bytes come in: a reading, or one of the numbered refusals with its place, each exactly where documents 01 and 02 call for it;
 -- a refusal changes no word or byte of the lent buffers.
@@ -66,11 +65,11 @@ canonical-written = CanonicalCalls.written
 -- Demands 1 and 2 settle the answer and every word and byte: whatever else meets them is the same.
 pub read-settled :
     (text : Bytes) (N N′ N″ : List ℕ) (a b : Answer) → Reads text N N′ a → RightReading isReserved text N N″ b → (a ≡ b) × (N′ ≡ N″)
-read-settled text N N′ N″ a b h g = settled (ReadCalls.right text N N′ a h) g (omega arith) (table-settled text N)
+read-settled = Settled.read-settled
 
 pub canonicalize-settled :
     (text : Bytes) (B B′ B″ : List ℕ) (a b : Answer) → Canonicalizes text B B′ a → RightCanonical isReserved text B B″ b → (a ≡ b) × (B′ ≡ B″)
-canonicalize-settled text B B′ B″ a b h g = settled (CanonicalCalls.right text B B′ a h) g (omega arith) (buffer-settled B)
+canonicalize-settled = Settled.canonicalize-settled
 
 -- It reads back to the canonical tree, with every table that is long enough for that tree, ..
 pub canonical-reads-back :
@@ -118,16 +117,12 @@ same-precedences = StripDeclarations.same-precedences
 pub read-as-before :
     (text : Bytes) → Unreserved text → (N N′ : List ℕ) (a : Answer) → Reads text N N′ a
     → RightReading noneReserved text N N′ a × ((N″ : List ℕ) (b : Answer) → RightReading noneReserved text N N″ b → (a ≡ b) × (N′ ≡ N″))
-read-as-before text free N N′ a h =
-    let before = right-alike isReserved noneReserved text free (ReadCalls.right text N N′ a h) in
-    (before, λ N″ b g. settled before g (omega arith) (table-settled text N))
+read-as-before = Settled.read-as-before
 
 pub canonicalize-as-before :
     (text : Bytes) → Unreserved text → (B B′ : List ℕ) (a : Answer) → Canonicalizes text B B′ a
     → RightCanonical noneReserved text B B′ a × ((B″ : List ℕ) (b : Answer) → RightCanonical noneReserved text B B″ b → (a ≡ b) × (B′ ≡ B″))
-canonicalize-as-before text free B B′ a h =
-    let before = right-alike isReserved noneReserved text free (CanonicalCalls.right text B B′ a h) in
-    (before, λ B″ b g. settled before g (omega arith) (buffer-settled B))
+canonicalize-as-before = Settled.canonicalize-as-before
 
 -- In every span, and so in every block, `and`, `or` and `not` have the roles that they start with.
 pub reserved-roles :

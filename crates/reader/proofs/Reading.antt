@@ -1,4 +1,4 @@
--- What reading answers after checks 2 to 11: a refusal, 12, or the words of the tree.
+-- What reading answers after checks 2 to 11 and 17: a refusal, 12, or the words of the tree.
 use mathlib.Core.Path.{_≡_, refl, sym, ap, ap₂, subst, _∙_}
 use mathlib.Core.List.{List}
 use Prim.Native.Nat.{ℕ, suc, _+_, _*_, _≤_, _<_}

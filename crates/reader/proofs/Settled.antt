@@ -1,6 +1,6 @@
 -- What is asked of a call settles its answer and its buffer: the number says which of the demands applies, and that one gives the rest.
 -- It speaks of the reserved operators only through the rows that hold of the text, so it is asked alike where these are alike.
-use mathlib.Core.Path.{_≡_, refl, sym, ap, ap₂, subst, _∙_}
+use mathlib.Core.Path.{_≡_, refl, sym, ap, ap₂, _∙_}
 use mathlib.Core.Logic.{_⊎_, inl, inr, ⊎-elim}
 use mathlib.Core.Bool.{Bool, true, false}
 use mathlib.Core.List.{List, _++_}
@@ -8,16 +8,20 @@ use Prim.Native.Nat.{ℕ, zero, suc, _*_, _≤_, _<_}
 use native.Mathlib.Omega.{arith}
 use lib.Dec.{leb}
 use borrow.Author.Tests.{leb-true, leb-false}
-use lib.ListN.{length, take, drop, take-append-drop}
+use lib.ListN.{take, drop, take-append-drop}
 use Rattle.grammar.specs.Bytes.{Bytes}
 use Rattle.grammar.specs.Tree.{Tree}
 use Rattle.grammar.specs.Nodes.{wordsPerNode}
-use Rattle.grammar.specs.Fault.{BeforeEleven}
+use Rattle.grammar.specs.Declaration.{isReserved}
+use Rattle.grammar.specs.Fault.{BeforeEleven, noneReserved, Unreserved}
 use Rattle.grammar.proofs.TokenFaults.{goes-on-unique}
 use Rattle.grammar.proofs.WordsOffsets.{words-offsets}
 use Rattle.grammar.proofs.ReservedNames.{Alike, same-fault, same-past, same-trees}
 use Rattle.reader.specs.declared.Answer.{Answer}
-use Rattle.reader.specs.Demands.{RightAnswerReserving, TableHolds, BufferHolds, Right}
+use Rattle.reader.specs.Demands.{RightAnswerReserving, TableHolds, BufferHolds, Right, RightReading, RightCanonical}
+use Rattle.reader.specs.Answered.{Reads, Canonicalizes}
+use Rattle.reader.proofs.ReadCalls as ReadCalls
+use Rattle.reader.proofs.CanonicalCalls as CanonicalCalls
 
 -- Two lists with the same front and the same rest.
 same-parts : (n : ℕ) (xs ys : List ℕ) → take n xs ≡ take n ys → drop n xs ≡ drop n ys → xs ≡ ys
@@ -27,7 +31,7 @@ same-parts n xs ys f r = sym (take-append-drop n xs) ∙ ap₂ _++_ f r ∙ take
 abbrev Settles : (List ℕ → ℕ → Tree → Type 0) → Type 0
 Settles Holds = (t : Tree) (C C′ : List ℕ) (c d : ℕ) → Holds C c t → Holds C′ d t → (c ≡ d) × (C ≡ C′)
 
-pub table-settled : (text : Bytes) (N : List ℕ) → Settles (TableHolds text N)
+table-settled : (text : Bytes) (N : List ℕ) → Settles (TableHolds text N)
 table-settled text N t C C′ c d h g =
     let e : c ≡ d = h .counted ∙ sym (g .counted) in
     let size : wordsPerNode * d ≡ wordsPerNode * c = ap (_*_ wordsPerNode) (sym e) in
@@ -36,7 +40,7 @@ table-settled text N t C C′ c d h g =
     let rest = h .behind ∙ ap (λ k. drop k N) (sym size) ∙ sym (g .behind) ∙ ap (λ k. drop k C′) size in
     (e, same-parts (wordsPerNode * c) C C′ front rest)
 
-pub buffer-settled : (B : List ℕ) → Settles (BufferHolds B)
+buffer-settled : (B : List ℕ) → Settles (BufferHolds B)
 buffer-settled B t C C′ c d h g =
     let e : c ≡ d = h .counted ∙ sym (g .counted) in
     let front = h .text ∙ sym (g .text) ∙ ap (λ k. take k C′) (sym e) in
@@ -51,7 +55,7 @@ ten-or-eleven k l = go (leb k 10) refl
     go false e = inr (omega (arith, leb-false k 10 e))
 
 module _ {reserved : Bytes → Bool} {own : ℕ} {Fits : Tree → Type 0} {Holds : List ℕ → ℕ → Tree → Type 0} {text : Bytes} {B : List ℕ} where
-  -- Two calls, of which the second has the number and the place of the first.
+  -- Two calls that meet the same demands.
   module _ {B′ B″ : List ℕ} {a b : Answer} (h : Right reserved own Fits Holds text B B′ a) (g : Right reserved own Fits Holds text B B″ b) where
     same-answer : a .number ≡ b .number → a .offset ≡ b .offset → a .count ≡ b .count → a ≡ b
     same-answer n p c i = record { number = n i; offset = p i; count = c i }
@@ -71,7 +75,7 @@ module _ {reserved : Bytes → Bool} {own : ℕ} {Fits : Tree → Type 0} {Holds
         let (c, u) = unique t B′ B″ (a .count) (b .count) (h .held z t tree) (g .held y t tree) in
         (same-answer (z ∙ sym y) (h .answers .placeZero (inl z) ∙ sym (g .answers .placeZero (inl y))) c, u)
 
-    pub settled : 0 < own → Settles Holds → (a ≡ b) × (B′ ≡ B″)
+    settled : 0 < own → Settles Holds → (a ≡ b) × (B′ ≡ B″)
     settled positive unique = ⊎-elim (λ l. low (a .number) refl l) (⊎-elim (λ e. row (inr e)) owned) (h .answers .known)
       where
         row : BeforeEleven (a .number) → (a ≡ b) × (B′ ≡ B″)
@@ -122,7 +126,30 @@ module _ (R S : Bytes → Bool) (text : Bytes) (alike : Alike R S text) where
         unchanged = h .unchanged;
       }
 
-  pub right-alike :
+  right-alike :
       {own : ℕ} {Fits : Tree → Type 0} {Holds : List ℕ → ℕ → Tree → Type 0} {B B′ : List ℕ} {a : Answer}
       → Right R own Fits Holds text B B′ a → Right S own Fits Holds text B B′ a
   right-alike h = record { answers = answers-alike (h .answers); held = λ z t tree. h .held z t (same-trees S R text back tree) }
+
+-- Of the two services, first where the three operators of document 02, §9, are reserved, then where none is.
+pub read-settled :
+    (text : Bytes) (N N′ N″ : List ℕ) (a b : Answer) → Reads text N N′ a → RightReading isReserved text N N″ b → (a ≡ b) × (N′ ≡ N″)
+read-settled text N N′ N″ a b h g = settled (ReadCalls.right text N N′ a h) g (omega arith) (table-settled text N)
+
+pub canonicalize-settled :
+    (text : Bytes) (B B′ B″ : List ℕ) (a b : Answer) → Canonicalizes text B B′ a → RightCanonical isReserved text B B″ b → (a ≡ b) × (B′ ≡ B″)
+canonicalize-settled text B B′ B″ a b h g = settled (CanonicalCalls.right text B B′ a h) g (omega arith) (buffer-settled B)
+
+pub read-as-before :
+    (text : Bytes) → Unreserved text → (N N′ : List ℕ) (a : Answer) → Reads text N N′ a
+    → RightReading noneReserved text N N′ a × ((N″ : List ℕ) (b : Answer) → RightReading noneReserved text N N″ b → (a ≡ b) × (N′ ≡ N″))
+read-as-before text free N N′ a h =
+    let before = right-alike isReserved noneReserved text free (ReadCalls.right text N N′ a h) in
+    (before, λ N″ b g. settled before g (omega arith) (table-settled text N))
+
+pub canonicalize-as-before :
+    (text : Bytes) → Unreserved text → (B B′ : List ℕ) (a : Answer) → Canonicalizes text B B′ a
+    → RightCanonical noneReserved text B B′ a × ((B″ : List ℕ) (b : Answer) → RightCanonical noneReserved text B B″ b → (a ≡ b) × (B′ ≡ B″))
+canonicalize-as-before text free B B′ a h =
+    let before = right-alike isReserved noneReserved text free (CanonicalCalls.right text B B′ a h) in
+    (before, λ B″ b g. settled before g (omega arith) (buffer-settled B))

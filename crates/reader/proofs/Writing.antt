@@ -1,4 +1,4 @@
--- What canonicalizing answers after checks 2 to 11: a refusal, 13, or the canonical text.
+-- What canonicalizing answers after checks 2 to 11 and 17: a refusal, 13, or the canonical text.
 use mathlib.Core.Path.{_≡_, refl, sym, ap, ap₂, _∙_}
 use mathlib.Core.Bool.{true, false, _&&_}
 use mathlib.Core.List.{List}

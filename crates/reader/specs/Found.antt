@@ -1,4 +1,4 @@
--- A text that passes checks 2 to 11 has a reading, whose tokens and tree the rows hold.
+-- A text that passes checks 2 to 11 and 17 has a reading, whose tokens and tree the rows hold.
 use mathlib.Core.Path.{_≡_}
 use mathlib.Core.List.{List}
 use Prim.Native.Nat.{ℕ, suc}

@@ -94,7 +94,7 @@ fn write_text(
     }
 }
 
-// Checks 2 to 11, and then one of the two: canonical text into the buffer, or nodes into the table.
+// Checks 2 to 11 and 17, and then one of the two: canonical text into the buffer, or nodes into the table.
 fn serve_in(
     text: &[u8],
     tokens: &mut [u16],

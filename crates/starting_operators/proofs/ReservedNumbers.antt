@@ -1,15 +1,15 @@
 -- The reserved operators are the starting operators with the first three numbers: their names compute, and a name that has no such number
 -- is none of theirs.
 use mathlib.Core.Path.{_≡_, refl, sym, ap, _∙_}
-use mathlib.Core.Bool.{Bool, true, false, _||_}
-use mathlib.Core.Logic.{_⊎_, ⊎-elim}
+use mathlib.Core.Bool.{Bool, true, false}
+use mathlib.Core.Logic.{⊎-elim}
 use mathlib.Core.List.{[]}
 use Prim.Native.Nat.{ℕ, _≤_, _<_}
 use native.Mathlib.Omega.{arith}
 use lib.ListN.{getD}
-use Rattle.grammar.specs.Bytes.{Bytes, bytes, same}
+use Rattle.grammar.specs.Bytes.{Bytes, same}
 use Rattle.grammar.specs.Declaration.{isReserved}
-use Rattle.grammar.proofs.Logic.{same-eq, or-cases}
+use Rattle.grammar.proofs.ReservedRoles.{reserved-names}
 use Rattle.starting_operators.specs.Starting.{startNumber}
 use Rattle.starting_operators.proofs.Numbers.{operator-names, each, named-number, start-name}
 
@@ -38,16 +38,9 @@ module _ (name : Bytes) where
 
   -- A reserved operator has one of these numbers.
   reserved-numbered : isReserved name ≡ true → startNumber name < reserved-count
-  unfolding isReserved
   reserved-numbered e =
-      let and = same name (bytes "and") in
-      let or = same name (bytes "or") in
-      ⊎-elim
-      (λ d.
-      ⊎-elim (λ h. numbered 1 (omega arith) (omega arith) (same-eq name (bytes "and") h))
-      (λ h. numbered 0 (omega arith) (omega arith) (same-eq name (bytes "or") h)) (or-cases and or d))
-      (λ h. numbered 2 (omega arith) (omega arith) (same-eq name (bytes "not") h))
-      (or-cases (and || or) (same name (bytes "not")) e)
+      ⊎-elim (numbered 1 (omega arith) (omega arith)) (⊎-elim (numbered 0 (omega arith) (omega arith)) (numbered 2 (omega arith) (omega arith)))
+      (reserved-names name e)
     where
       numbered : (k : ℕ) → k < 8 → k < reserved-count → name ≡ getD operator-names k [] → startNumber name < reserved-count
       numbered k h l e = omega (arith, named-number name k h e)

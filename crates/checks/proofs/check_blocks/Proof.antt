@@ -1,4 +1,4 @@
--- What resolving answers is checks 8 to 10; where they pass, the roles in force are known.
+-- What resolving answers is checks 8 to 10 and 17; where they pass, the roles in force are known.
 use Rattle.checks.proofs.Stages.{ranged, not-resolved, classified}
 use borrow.Author.Needs.{needs}
 use Rattle.checks.proofs.check_blocks.Statement.{statement}
