@@ -62,15 +62,6 @@ pub canonical-written :
     (text : Bytes) (B B′ : List ℕ) (a : Answer) → Canonicalizes text B B′ a → a .number ≡ 0 → (t : Tree) → TreeOf text t → BufferHolds B B′ (a .count) t
 canonical-written = CanonicalCalls.written
 
--- Demands 1 and 2 settle the answer and every word and byte: whatever else meets them is the same.
-pub read-settled :
-    (text : Bytes) (N N′ N″ : List ℕ) (a b : Answer) → Reads text N N′ a → RightReading isReserved text N N″ b → (a ≡ b) × (N′ ≡ N″)
-read-settled = Settled.read-settled
-
-pub canonicalize-settled :
-    (text : Bytes) (B B′ B″ : List ℕ) (a b : Answer) → Canonicalizes text B B′ a → RightCanonical isReserved text B B″ b → (a ≡ b) × (B′ ≡ B″)
-canonicalize-settled = Settled.canonicalize-settled
-
 -- It reads back to the canonical tree, with every table that is long enough for that tree, ..
 pub canonical-reads-back :
     (text : Bytes) (B B′ : List ℕ) (a : Answer) → Canonicalizes text B B′ a → a .number ≡ 0 → (t : Tree) → TreeOf text t
@@ -85,6 +76,15 @@ canonical-faithful = Rules.canonical-faithful
 pub canonical-is-tree :
     (text : Bytes) (t : Tree) → TreeOf text t → length (canonicalBytes t) ≤ longestText → TreeOf (canonicalBytes t) (canonicalTree t)
 canonical-is-tree = Rules.canonical-read
+
+-- Demands 1 and 2 settle the answer and every word and byte: whatever else meets them is the same.
+pub read-settled :
+    (text : Bytes) (N N′ N″ : List ℕ) (a b : Answer) → Reads text N N′ a → RightReading isReserved text N N″ b → (a ≡ b) × (N′ ≡ N″)
+read-settled = Settled.read-settled
+
+pub canonicalize-settled :
+    (text : Bytes) (B B′ B″ : List ℕ) (a b : Answer) → Canonicalizes text B B′ a → RightCanonical isReserved text B B″ b → (a ≡ b) × (B′ ≡ B″)
+canonicalize-settled = Settled.canonicalize-settled
 
 -- Demand 3. Any two trees of one text are the same tree, whatever overloading the table check let through.
 pub one-tree : (text : Bytes) (t u : Tree) → TreeOf text t → TreeOf text u → t ≡ u
