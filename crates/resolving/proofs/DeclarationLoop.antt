@@ -188,7 +188,8 @@ module _
     -- Another declaration is passed over: the operators are those that it leaves in force.
     passed-over :
         {change : G.Table → G.Table} {k n : ℕ} → DeclarationAt text K c (inv .placed) at change k n
-        → isReserved (charactersOf text K (at + k)) ≡ false → (u : Table) → Sound text u → tableOf text u ≡ change operators → (still : Bool) → (still ≡ true → lawfulTable (tableOf text u) ≡ true)
+        → isReserved (charactersOf text K (at + k)) ≡ false → (u : Table) → Sound text u → tableOf text u ≡ change operators
+        → (still : Bool) → (still ≡ true → lawfulTable (tableOf text u) ≡ true)
         → {next : ℕ} → next ≡ nextPlace text (nextPlace text (start K (at + k)) (size K (at + k))) 1
         → Entering text K T i c u still next (at + n)
     passed-over {n = n} step free u s e still m b =
