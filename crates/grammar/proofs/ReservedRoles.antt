@@ -118,8 +118,16 @@ removed-length m (o ∷ T) = go (same m (o .name)) refl (removed-length m T)
     go true e k = rw (e, removeRoles) (omega arith)
     go false e k = rw (e, removeRoles) (omega arith)
 
--- The reserved operators are in force at the start, and behind declarations of others.
-pub reserved-names : (m : Bytes) → isReserved m ≡ true → (m ≡ bytes "and") ⊎ ((m ≡ bytes "or") ⊎ (m ≡ bytes "not"))
+-- The reserved operators are these three, ..
+abbrev Named : Bytes → Type 0
+Named m = (m ≡ bytes "and") ⊎ ((m ≡ bytes "or") ⊎ (m ≡ bytes "not"))
+
+pub names-reserved : (m : Bytes) → Named m → isReserved m ≡ true
+unfolding isReserved same
+names-reserved m = ⊎-elim (λ h. rw h refl) (⊎-elim (λ h. rw h refl) (λ h. rw h refl))
+
+-- .. and no other.
+pub reserved-names : (m : Bytes) → isReserved m ≡ true → Named m
 unfolding isReserved
 reserved-names m e =
     let and = same m (bytes "and") in
@@ -129,6 +137,7 @@ reserved-names m e =
     (λ h. inr (inr (same-eq m (bytes "not") h)))
     (or-cases (and || or) (same m (bytes "not")) e)
 
+-- They are in force at the start, and behind declarations of others.
 reserved-starts : (m : Bytes) → isReserved m ≡ true → inForce startTable m ≡ true
 unfolding inForce hasRole isSome role startTable startDeclarations declareAll declare declareRole replaced sameFixity same
 reserved-starts m e = ⊎-elim (λ h. rw h refl) (⊎-elim (λ h. rw h refl) (λ h. rw h refl)) (reserved-names m e)

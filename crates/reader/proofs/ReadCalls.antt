@@ -13,7 +13,6 @@ use Rattle.grammar.specs.Outcome.{Outcome, refused, passed}
 use Rattle.grammar.specs.Declaration.{isReserved}
 use Rattle.grammar.specs.Tree.{Tree}
 use Rattle.grammar.specs.Nodes.{count, wordsPerNode}
-use Rattle.grammar.specs.Decoding.{decode, Ordered, Together}
 use Rattle.grammar.specs.Claim.{TreeOf}
 use Rattle.grammar.specs.Answer as G
 use Rattle.grammar.specs.Answer.{Reading, offsetOf, readText, readInto, readingWords, over}

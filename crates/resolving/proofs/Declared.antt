@@ -2,17 +2,16 @@
 -- one begins behind the blanks behind its `;`, and the checks behind it go on there, with less fuel.
 use mathlib.Core.Path.{_≡_, refl, sym, ap, subst, _∙_}
 use mathlib.Core.Bool.{true, false}
-use mathlib.Core.List.{List, [], _∷_, _++_}
+use mathlib.Core.List.{List, _++_}
 use mathlib.Core.Option.{some}
 use Prim.Native.Nat.{ℕ, suc, _+_, _-_, _≤_, _<_}
 use native.Mathlib.Omega.{arith}
-use native.Mathlib.Numerals.{add-one}
 use lib.Dec.{leb}
 use lib.ListN.{length, drop, getD, length-append}
 use lib.Seq.{drop-at}
 use borrow.Author.Tests.{leb-true, le-leb, lt-leb}
 use Rattle.grammar.specs.Bytes.{Bytes}
-use Rattle.grammar.specs.Token.{Token, Structure, atom, structure, symbol, semicolon, keywordLet, structureNumber}
+use Rattle.grammar.specs.Token.{Token, Structure, atom, structure, symbol, semicolon, structureNumber}
 use Rattle.grammar.specs.Outcome.{Outcome, refused, passed}
 use Rattle.grammar.specs.Scan.{Placed}
 use Rattle.grammar.specs.Answer.{offsetOf}
