@@ -232,11 +232,11 @@ module _
       pub role-reserved : isReserved name ≡ true → answer text K T i c ≡ refused 17 (at + 3)
       role-reserved r = reserved-stops (role .step) (rw is-characters at r)
 
-      -- What is found of its name, which is not reserved.
-      module _ (free : isReserved name ≡ false) (found : Found) (looked : found ≡ codedFind text (t .words) name 0 (t .count)) where
-        pub overfull : isFull (t .count) found ≡ true → answer text K T i c ≡ refused 9 (at + 3)
+      -- What is found of its name.
+      module _ (found : Found) (looked : found ≡ codedFind text (t .words) name 0 (t .count)) where
+        pub overfull : isReserved name ≡ false → isFull (t .count) found ≡ true → answer text K T i c ≡ refused 9 (at + 3)
         unfolding isFull
-        overfull = go found refl
+        overfull free = go found refl
           where
             go : (x : Found) → found ≡ x → isFull (t .count) x ≡ true → answer text K T i c ≡ refused 9 (at + 3)
             go (At k) e z = absurd (true≢false (sym z))
@@ -261,9 +261,9 @@ module _
 
         -- It meets the conditions still, if it did and the operator is new.
         pub declared-over :
-            (u : Table) → Declared text t o n f code u → (still : Bool) → (still ≡ true → (lawful ≡ true) × (isNew found ≡ true))
+            isReserved name ≡ false → (u : Table) → Declared text t o n f code u → (still : Bool) → (still ≡ true → (lawful ≡ true) × (isNew found ≡ true))
             → {next : ℕ} → next ≡ nextPlace text (nextPlace text o n) 1 → Entering text K T i c u still next (at + 5)
-        declared-over u d still m e =
+        declared-over free u d still m e =
             let table = d .table (role .declared) (role .coded) in
             passed-over (role .step) (rw is-characters at free) u (d .sound) (table ∙ ap (λ w. declareRole w (fixityOf f) (role .declared) operators) is-characters) still
             (λ z. rw table

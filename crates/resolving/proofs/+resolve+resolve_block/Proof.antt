@@ -591,7 +591,7 @@ module _ (t : ℕ) where
       let n = operator-of f in
       let w = role-turn n in
       answers-refused _ _ _ _ _ _ _ _ _
-      (overfull (w .before .loop .inv) (not-in w) (role (role-of n)) (sized n .size .ensures) (free (unreserved f)) _ (looks f)
+      (overfull (w .before .loop .inv) (not-in w) (role (role-of n)) (sized n .size .ensures) _ (looks f) (free (unreserved f))
       (sym (c .before .is-full .ensures) ∙ c .if3 .taken))
 
   block-is-new-requires : resolve-block-lts.Need-is-new-requires (block-calls t) (resolve-block-at t) resolve-block.Post Inv-declarations μ-declarations
@@ -613,7 +613,7 @@ module _ (t : ℕ) where
       let f = e .before .before in
       let n = operator-of f in
       let w = role-turn n in
-      declarable (w .before .loop .inv) (not-in w) (role (role-of n)) (sized n .size .ensures) (free (unreserved f)) _ (looks f)
+      declarable (w .before .loop .inv) (not-in w) (role (role-of n)) (sized n .size .ensures) _ (looks f)
       (c .hash .ensures .0 ∙ ap hashOf (n .token-at .ensures), c .hash .ensures .1)
       (sym (e .before .is-full .ensures) ∙ e .if3 .left)
 
@@ -654,7 +654,7 @@ module _ (t : ℕ) where
       let f = j .before .before .before .before in
       let n = operator-of f in
       let w = role-turn n in
-      declared-over (w .before .loop .inv) (not-in w) (role (role-of n)) (sized n .size .ensures) (free (unreserved f)) _ (looks f) _
+      declared-over (w .before .loop .inv) (not-in w) (role (role-of n)) (sized n .size .ensures) _ (looks f) (free (unreserved f)) _
       (u .declare .ensures _ (role-declarable (u .before))) _ (still j) (c .behind-semicolon .ensures)
 
   block-enum-known-operator : resolve-block-lts.Need-enum-known-operator (block-calls t) (resolve-block-at t) resolve-block.Post Inv-declarations μ-declarations
