@@ -1,7 +1,7 @@
 -- Check 11: what the search of all spans answers is what reading answers, and of a text that is read the rows hold the tree.
 use mathlib.Core.Path.{_≡_, refl, sym, ap, subst, _∙_}
 use mathlib.Core.Bool.{Bool}
-use mathlib.Core.List.{List, []}
+use mathlib.Core.List.{List, [], _∷_}
 use mathlib.Core.Option.{Option, none, some}
 use Prim.Native.Nat.{ℕ, suc, _≤_, _<_}
 use native.Mathlib.Omega.{arith}
@@ -17,10 +17,13 @@ use Rattle.grammar.specs.Nodes.{count}
 use Rattle.grammar.proofs.Scanned.{length-tokens}
 use Rattle.grammar.proofs.SpanOrder.{treeless-within}
 use Rattle.grammar.proofs.Logic.{impossible}
-use Rattle.grammar.proofs.Readings.{past-reads, reading-tree}
+use Rattle.grammar.proofs.CheckedTrees.{checked-tree}
+use Rattle.grammar.proofs.ReadingTrees.{is-tree}
+use Rattle.grammar.proofs.Readings.{past-reads, some-tokens, reading-of-tokens}
 use Rattle.rows.specs.Fields.{Holds}
 use Rattle.rows.specs.Tokens.{range}
 use Rattle.rows.specs.Agreeing.{Agrees}
+use Rattle.rows.specs.Standing.{mark}
 use Rattle.rows.specs.Reading.{Ready}
 use Rattle.rows.proofs.Bounded.{bounded-start}
 use Rattle.climb.specs.Searched.{Rows, InForce, Flat, treeless, Checks}
@@ -29,7 +32,7 @@ use Rattle.climb.specs.declared.spans.Spans.{Spans}
 use Rattle.climb.specs.declared.spans.Spans.the-variants as Answer
 use Rattle.checks.specs.declared.Checked.{Checked}
 use Rattle.checks.specs.declared.Checked.the-variants.{Passed, Refused}
-use Rattle.checks.specs.Checking.{Classified, offsetIn, Checking}
+use Rattle.checks.specs.Checking.{Classified, offsetIn, Passes, Checking}
 use Rattle.checks.proofs.Stages.{offset-in, own-tokens, refusal}
 
 -- The answers of the search tell the openers apart.
@@ -44,6 +47,14 @@ not-trees : {k at : ℕ} (o : Option ℕ) → treeless o ≡ Answer.Trees k at �
 unfolding treeless
 not-trees none e = impossible cc
 not-trees (some i) e = impossible cc
+
+-- What is answered of a text with a token that is read.
+passes :
+    {text : Bytes} {K R O : List ℕ} (c : Checked) (r : Reading) (qs : List Placed) → 0 < length qs
+    → ((at : ℕ) × (c ≡ Passed (length (r .tokens)) (count (r .tree)) at) × (suc at ≡ mark 0 (r .tree))) × Ready text K R O r
+    → Passes text K R O c r qs
+passes c r [] l h = absurd (omega arith)
+passes c r (q ∷ qs) l h = h
 
 module _ {text : Bytes} {K R O : List ℕ} {n : ℕ} {nested : Bool} (v : Classified text K R O n nested) where
   abbrev ps : List Placed
@@ -61,12 +72,18 @@ module _ {text : Bytes} {K R O : List ℕ} {n : ℕ} {nested : Bool} (v : Classi
         declared = ap (λ j. checkBlocks (suc j) startTable 0 (tokensOf ps)) (sym (v .matched .scanned .counted)) ∙ v .declared;
       }
 
+  some-placed : 0 < length ps
+  some-placed = omega (arith, v .matched .scanned .some, v .matched .scanned .counted)
+
   pub in-force : InForce text startTable K R 0 n
   in-force = record { bounded = bounded-start; agrees = v .agrees }
 
   module _ (O′ : List ℕ) (r : Spans) (h : Climb.Checked K R n O O′ r) where
     abbrev whole : Option Tree
     whole = treeOf startTable (tokensOf ps)
+
+    reads-whole : readText text ≡ readSpans text ps whole
+    reads-whole = past-reads text ps past ∙ ap (readSpans text ps) (some-tokens ps some-placed)
 
     checks : Checks text startTable K n O′ whole r
     checks = rw (own-tokens (v .matched)) at (h .answer text startTable in-force)
@@ -87,7 +104,7 @@ module _ {text : Bytes} {K R O : List ℕ} {n : ℕ} {nested : Bool} (v : Classi
             ∙ ap (λ ss. treeless (treelessOpener ss)) own-spans) ∙ e in
             let opener : treelessOpener (spansOf ps) ≡ o = treeless-same _ o same in
             refusal text K R O′ 11 p
-            (past-reads text ps past ∙ ap (readSpans text ps) g ∙ ap (λ x. refused 11 (spanOffset text ps x)) opener ∙ ap (refused 11) (sym f))
+            (reads-whole ∙ ap (readSpans text ps) g ∙ ap (λ x. refused 11 (spanOffset text ps x)) opener ∙ ap (refused 11) (sym f))
         go (some t) g c = absurd (never t e g)
 
     pub no-tree : r ≡ Answer.NoTree → Checking text K R O′ (Refused 11 0)
@@ -127,11 +144,13 @@ module _ {text : Bytes} {K R O : List ℕ} {n : ℕ} {nested : Bool} (v : Classi
         go : (w : Option Tree) → whole ≡ w → Checks text startTable K n O′ w r → Checking text K R O′ (Passed n k at)
         go none g c = absurd (not-trees (treelessOpener (spans (suc n) startTable none 0 (range text K 0 n))) (sym c ∙ e))
         go (some t) g c =
-            let reads : readText text ≡ passed (record { tokens = ps; tree = t }) = past-reads text ps past ∙ ap (readSpans text ps) g in
+            let reads : readText text ≡ passed (record { tokens = ps; tree = t }) = reads-whole ∙ ap (readSpans text ps) g in
             let z : Answer.Trees (count t) (c .0 .0) ≡ Answer.Trees k at = sym (c .0 .1) ∙ e in
             let x : count t ≡ k = cc in
+            let some-tree : 0 < length (tokensOf ps) = omega (arith, some-placed, length-tokens ps) in
             let y : c .0 .0 ≡ at = cc in
-            rw reads (
+            rw reads
+            (passes (Passed n k at) (record { tokens = ps; tree = t }) ps some-placed (
               (at, cc (v .matched .scanned .counted, x), ap suc (sym y) ∙ c .0 .2),
               record {
                 short = v .matched .scanned .short;
@@ -140,7 +159,7 @@ module _ {text : Bytes} {K R O : List ℕ} {n : ℕ} {nested : Bool} (v : Classi
                 roles = subst (λ j. Holds 4 R j) (v .matched .scanned .counted) (v .matched .scanned .roles);
                 roots = subst (λ j. Holds 2 O′ j) (v .matched .scanned .counted) (v .matched .scanned .roots .0, omega (arith, v .matched .scanned .roots .1, h .long));
                 agrees = subst (λ j. Agrees text K R startTable 0 j) (v .matched .scanned .counted) (v .agrees);
-                isTree = reading-tree text (record { tokens = ps; tree = t }) reads .1;
+                isTree = checked-tree (is-tree some-tree (reading-of-tokens text (record { tokens = ps; tree = t }) reads .1));
                 rooted = c .1;
               },
-            )
+            ))

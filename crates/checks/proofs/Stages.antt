@@ -1,7 +1,7 @@
 -- What each check says of the reading: where one refuses, that is what reading answers; where it passes, what the next one asks.
 use mathlib.Core.Path.{_≡_, refl, sym, ap, _∙_}
 use mathlib.Core.Bool.{Bool, true, false}
-use mathlib.Core.List.{List, []}
+use mathlib.Core.List.{List, [], _∷_}
 use Prim.Native.Nat.{ℕ, zero, suc, _-_, _*_, _≤_, _<_}
 use native.Mathlib.Omega.{arith}
 use lib.Dec.{ltb}
@@ -17,6 +17,7 @@ use Rattle.grammar.specs.Blocks.{checkBlocks}
 use Rattle.grammar.specs.Answer.{tokensOf, offsetOf, readText, readTokens}
 use Rattle.grammar.proofs.Scanned.{length-tokens}
 use Rattle.grammar.proofs.Logic.{impossible}
+use Rattle.grammar.proofs.BlankTexts.{none-read}
 use Rattle.grammar.proofs.RefusalPlaces.{nesting-place, blocks-place}
 use Rattle.rows.specs.Fields.{kind, start, Holds}
 use Rattle.rows.specs.Tokens.{range, tokenIn, IsAtomKind, Unblocked, Stored}
@@ -44,7 +45,7 @@ use Rattle.pairing.proofs.Blocks.{no-block}
 use Rattle.resolving.specs.Resolving.{Ranged, Resolves, Resolving}
 use Rattle.resolving.specs.declared.Resolved.{Resolved}
 use Rattle.resolving.specs.declared.Resolved.the-variants as Resolve
-use Rattle.checks.specs.declared.Checked.the-variants.{Refused}
+use Rattle.checks.specs.declared.Checked.the-variants.{Blank, Refused}
 use Rattle.checks.specs.Checking.{Roomy, Checkable, Tokenized, Matched, Classified, offsetIn, Checking}
 
 -- One number is below another, or not.
@@ -54,6 +55,9 @@ by-order {X} i n f g = go (ltb i n) refl
     go : (b : Bool) → ltb i n ≡ b → X
     go true e = f (ltb-true i n e)
     go false e = g (ltb-false i n e)
+
+pub positive : {n : ℕ} → (n ≡ 0 → ⊥) → 0 < n
+positive {n} f = by-order 0 n (λ l. l) (λ l. absurd (f (omega arith)))
 
 pub refusal : (text : Bytes) (K R O : List ℕ) (n p : ℕ) → readText text ≡ refused n p → Checking text K R O (Refused n p)
 refusal text K R O n p e = rw e refl
@@ -94,9 +98,9 @@ module _ (text : Bytes) (short : length text ≤ longestText) where
 
 pub tokenized :
     {text : Bytes} {K R O : List ℕ} → Checkable text K R O → (K′ : List ℕ) (r : Scanned) (n : ℕ) (b : Bool)
-    → Scans text K′ (scan mostTokens 0 text) r → length K′ ≡ length K → r ≡ Scan.Tokens n b
+    → Scans text K′ (scan mostTokens 0 text) r → length K′ ≡ length K → r ≡ Scan.Tokens n b → 0 < n
     → Tokenized text K′ R O n × (b ≡ false → (j : ℕ) → j < n → kind K′ j ≤ 3)
-tokenized {text} {K} {R} {O} c K′ r n b h w e = go (scan mostTokens 0 text) refl h
+tokenized {text} {K} {R} {O} c K′ r n b h w e some = go (scan mostTokens 0 text) refl h
   where
     go : (o : Outcome (List Placed)) → scan mostTokens 0 text ≡ o → Scans text K′ o r
         → Tokenized text K′ R O n × (b ≡ false → (j : ℕ) → j < n → kind K′ j ≤ 3)
@@ -110,6 +114,7 @@ tokenized {text} {K} {R} {O} c K′ r n b h w e = go (scan mostTokens 0 text) re
         rw (← x, ← y) (
           record {
             short = c .short;
+            some = rw x some;
             placed = ps;
             counted = refl;
             stored = g .2;
@@ -119,6 +124,20 @@ tokenized {text} {K} {R} {O} c K′ r n b h w e = go (scan mostTokens 0 text) re
           },
           g .3,
         )
+
+-- Without a token the text is blank.
+pub blank :
+    {text : Bytes} {K R O : List ℕ} → Checkable text K R O → (K′ : List ℕ) (r : Scanned) (n : ℕ) (b : Bool)
+    → Scans text K′ (scan mostTokens 0 text) r → r ≡ Scan.Tokens n b → n ≡ 0 → Checking text K′ R O Blank
+blank {text} {K} {R} {O} c K′ r n b h e none = go (scan mostTokens 0 text) refl h
+  where
+    go : (o : Outcome (List Placed)) → scan mostTokens 0 text ≡ o → Scans text K′ o r → Checking text K′ R O Blank
+    go (refused x q) f g = let z = sym g ∙ e in impossible cc
+    go (passed []) f g = rw (none-read text (c .short) f) refl
+    go (passed (p ∷ ps)) f g =
+        let z : Scan.Tokens (suc (length ps)) (g .0) ≡ Scan.Tokens n b = sym (g .1) ∙ e in
+        let x : suc (length ps) ≡ n = cc in
+        absurd (omega arith)
 
 -- What `offsetIn` is, by the kind of the token.
 pub offset-quoted : (text : Bytes) (K : List ℕ) (n i : ℕ) → i < n → kind K i ≡ 3 → offsetIn text K n i ≡ start K i - 1
@@ -191,6 +210,7 @@ module _ {text : Bytes} {K R O : List ℕ} {n : ℕ} (t : Tokenized text K R O n
     still-tokens =
         record {
           short = t .short;
+          some = t .some;
           placed = t .placed;
           counted = t .counted;
           stored =
@@ -291,6 +311,7 @@ module _ {text : Bytes} {K R O : List ℕ} {n : ℕ} {nested : Bool} (m : Matche
                     scanned =
                         record {
                           short = m .scanned .short;
+                          some = m .scanned .some;
                           placed = own;
                           counted = m .scanned .counted;
                           stored = m .scanned .stored;

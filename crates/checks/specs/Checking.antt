@@ -1,7 +1,7 @@
 -- Checks 2 to 11 and 17: what is asked of the rows at each stage, what is answered, and what the rows hold of a text that is read.
 use mathlib.Core.Path.{_≡_}
 use mathlib.Core.Bool.{Bool, true, false}
-use mathlib.Core.List.{List, []}
+use mathlib.Core.List.{List, [], _∷_}
 use Prim.Native.Nat.{ℕ, suc, _+_, _-_, _*_, _≤_, _<_}
 use lib.Dec.{ltb, eqb}
 use lib.ListN.{length}
@@ -20,7 +20,7 @@ use Rattle.rows.specs.Agreeing.{Agrees}
 use Rattle.rows.specs.Standing.{mark}
 use Rattle.rows.specs.Reading.{Ready}
 use Rattle.checks.specs.declared.Checked.{Checked}
-use Rattle.checks.specs.declared.Checked.the-variants.{Passed, Refused}
+use Rattle.checks.specs.declared.Checked.the-variants.{Blank, Passed, Refused}
 
 -- The row has an entry of `w` words for each token that the text can have.
 abbrev pub Roomy : ℕ → Bytes → List ℕ → Type 0
@@ -33,9 +33,10 @@ pub record Checkable (text : Bytes) (K R O : List ℕ) : Type 0 where
   pub roles : Roomy 4 text R
   pub roots : Roomy 2 text O
 
--- After checks 2 to 5: the tokens of the text.
+-- After checks 2 to 5: the tokens of a text that is not blank.
 pub record Tokenized (text : Bytes) (K R O : List ℕ) (n : ℕ) : Type 0 where
   pub short : length text ≤ longestText
+  pub some : 0 < n
   pub placed : List Placed
   pub counted : n ≡ length placed
   pub stored : Stored text placed K
@@ -64,12 +65,18 @@ offsetIn text K n i =
       | false ↦ length text
     ]
 
--- What is answered: 01's number and place of a refusal; or the number of tokens, that of nodes and the root, with the rows of the reading.
--- (What the rows hold after a refusal is not said: nobody reads them.)
+-- What is answered of a text that is read: that it is blank; or the number of tokens, that of nodes and the root, with the rows of the
+-- reading.
+abbrev pub Passes : Bytes → List ℕ → List ℕ → List ℕ → Checked → Reading → List Placed → Type 0
+Passes text K R O c r [] = c ≡ Blank
+Passes text K R O c r (p ∷ ps) =
+    ((at : ℕ) × (c ≡ Passed (length (r .tokens)) (count (r .tree)) at) × (suc at ≡ mark 0 (r .tree))) × Ready text K R O r
+
+-- What is answered: 01's number and place of a refusal, or that.
+-- (What the rows hold after a refusal, and of a blank text, is not said: nobody reads them.)
 abbrev pub Outcomes : Bytes → List ℕ → List ℕ → List ℕ → Checked → Outcome Reading → Type 0
 Outcomes text K R O c (refused n p) = c ≡ Refused n p
-Outcomes text K R O c (passed r) =
-    ((at : ℕ) × (c ≡ Passed (length (r .tokens)) (count (r .tree)) at) × (suc at ≡ mark 0 (r .tree))) × Ready text K R O r
+Outcomes text K R O c (passed r) = Passes text K R O c r (r .tokens)
 
 abbrev pub Checking : Bytes → List ℕ → List ℕ → List ℕ → Checked → Type 0
 Checking text K R O c = Outcomes text K R O c (readText text)

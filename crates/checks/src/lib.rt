@@ -18,8 +18,9 @@ ghost use Rattle.checks.specs.Checking.{Checkable, Tokenized, Matched, C
 // Refusal 11.
 pub const NO_TREE: u8 = 11;
 
-// How many tokens and nodes there are, and the root; or the number and the place of a refusal.
+// Whether a text is blank; or how many tokens and nodes there are, and the root; or the number and the place of a refusal.
 pub enum Checked {
+    Blank,
     Passed {
         tokens: usize,
         nodes: usize,
@@ -125,6 +126,9 @@ pub fn check(text: &[u8], tokens: &mut [u16], roles: &mut [u16], roots: &mut [u1
     match scan::scan(&table, text, tokens) {
         Scanned::Refused { number, at } => Checked::Refused { number, offset: at },
         Scanned::Tokens { count, nested } => {
+            if count == 0 {
+                return Checked::Blank;
+            }
             if nested {
                 return check_tokens(text, tokens, count, roles, roots);
             }

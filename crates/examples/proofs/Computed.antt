@@ -32,7 +32,8 @@ computed :
     × (Listing.listing 25 9 (bytes "a + b * 3") ≡ t3Listing)
     × (map (λ c. Listing.listing 1000 2000 (c .text)) cases ≡ map (λ c. c .listing) cases)
     × (map Limits.given limits ≡ map Limits.asked limits)
-unfolding Answer.tokensOf Answer.startsOf Answer.offsetOf Answer.spanOffset Answer.readSpans Answer.readTokens Answer.readText
+unfolding Answer.tokensOf Answer.startsOf Answer.offsetOf Answer.spanOffset Answer.readingTree Answer.readSpans Answer.readTokens
+    Answer.readText
     Answer.rejection Answer.success Answer.over Answer.readingWords Answer.readInto Answer.read Answer.readingText
     Answer.writeInto Answer.canonicalizeInto Answer.canonicalize Blocks.bodyTable Blocks.checkItem Blocks.checkItems
     Blocks.checkBlocks Blocks.itemSpans Blocks.allItemSpans Blocks.spans Blocks.firstWithout Blocks.treelessOpener

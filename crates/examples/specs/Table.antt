@@ -1,4 +1,4 @@
--- Document 01, "Table cases, proved": T1 to T14 as one table: what reading and canonicalizing answer, and what they leave in
+-- Document 01, "Table cases, proved": T1 to T14 as one table, T1 as document 02, §7, has it: what reading and canonicalizing answer, and what they leave in
 -- buffers of 40 words and 80 bytes that were filled with 7.
 use mathlib.Core.List.{List, [], _∷_, _++_}
 use Prim.Native.Nat.{ℕ}
@@ -50,7 +50,7 @@ node kind first second offset size rest = kind ∷ first ∷ second ∷ offset �
 abbrev pub table : List Example
 table =
     -- T1
-    record { text = bytes ""; expected = refuses 11 0 }
+    record { text = bytes ""; expected = reads 0 [] (bytes "") }
     -- T2
     ∷ record { text = bytes "a"; expected = reads 1 (node 1 0 0 0 1 []) (bytes "a") }
     -- T3

@@ -16,7 +16,7 @@ use Rattle.grammar.specs.Scan.{Placed, scan}
 use Rattle.grammar.specs.Nesting.{nesting}
 use Rattle.grammar.specs.Declaration.{startTable}
 use Rattle.grammar.specs.Tree.{Tree, nothing, leaf, bracket, block, node, flat}
-use Rattle.grammar.specs.Blocks.{checkBlocks, treeOf}
+use Rattle.grammar.specs.Blocks.{checkBlocks}
 use Rattle.grammar.specs.Nodes.{count, wordsPerNode}
 use Rattle.grammar.specs.Answer.{
   Reading,
@@ -25,6 +25,7 @@ use Rattle.grammar.specs.Answer.{
   over,
   tokensOf,
   offsetOf,
+  readingTree,
   readSpans,
   readTokens,
   readText,
@@ -38,7 +39,8 @@ use Rattle.grammar.specs.Answer.{
   Result,
 }
 use Rattle.grammar.proofs.Operands.{Operated, words-length}
-use Rattle.grammar.proofs.Readings.{reading-operated}
+use Rattle.grammar.proofs.ReadingTrees.{reading-operated}
+use Rattle.grammar.proofs.Readings.{reading-of-tokens}
 use Rattle.grammar.proofs.Logic.{and-left}
 use Rattle.grammar.proofs.RefusalNumbers.{
   Numbered,
@@ -77,7 +79,7 @@ tokens-numbered text ps =
     numbered-andThen OfChecks (placed f c) _
     (numbered-placed OfChecks f c
     (numbered-wider OfBlocks OfChecks (λ k. ⊎-elim (λ b. inl (omega arith)) inr) c (blocks-numbered (suc (length ps)) startTable 0 (tokensOf ps)))) (λ v.
-    spans-numbered text ps (treeOf startTable (tokensOf ps))))
+    spans-numbered text ps (readingTree (tokensOf ps))))
 
 -- Checks 1 to 11 and 17 give these numbers.
 pub read-numbered : (text : Bytes) → Numbered OfChecks (readText text)
@@ -150,7 +152,7 @@ canonicalizeInto-proper b (passed r) h = writeInto-proper b (readingText r)
 -- Reading: numbers 0 to 12 and 17; a refusal leaves every word of the lent table.
 pub read-proper : (text : Bytes) (b : List ℕ) → Proper b 12 (read text b)
 unfolding read
-read-proper text b = readInto-proper text b (readText text) (read-numbered text) (reading-operated text)
+read-proper text b = readInto-proper text b (readText text) (read-numbered text) (λ r e. reading-operated (reading-of-tokens text r e .1))
 
 -- Canonicalizing: numbers 0 to 13 and 17; a refusal leaves every byte of the lent buffer.
 pub canonicalize-proper : (text : Bytes) (b : List ℕ) → Proper b 13 (canonicalize text b)

@@ -21,7 +21,7 @@ pub record IsCheckedTree (T : Table) (ts : List Token) (t : Tree) : Type 0 where
   pub outer : SpanOk T t
   pub inner : InnerChecked T t
 
-inner-ok : (T : Table) (t : Tree) → InnerChecked T t → InnerOk T t
+pub inner-ok : (T : Table) (t : Tree) → InnerChecked T t → InnerOk T t
 inner-ok T nothing h = tt
 inner-ok T (leaf a) h = tt
 inner-ok T (bracket t) h = (h .0, inner-ok T t (h .1))

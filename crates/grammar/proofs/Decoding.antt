@@ -14,14 +14,15 @@ use Rattle.grammar.specs.Bytes.{Bytes}
 use Rattle.grammar.specs.Token.{Atom, symbol, number, quoted, Token, atom, structure, keywordLet, keywordIn, characters, spelling}
 use Rattle.grammar.specs.Operator.{Fixity, Prefix, Infix, Postfix}
 use Rattle.grammar.specs.Scan.{Placed}
-use Rattle.grammar.specs.Declaration.{Declaration, startTable, allTokens, areDeclarations, declarations}
+use Rattle.grammar.specs.Declaration.{Declaration, allTokens, areDeclarations, declarations}
 use Rattle.grammar.specs.Fault.{mostTokens}
 use Rattle.grammar.specs.SpanTree.{present}
-use Rattle.grammar.specs.Tree.{Tree, nothing, leaf, bracket, block, node, flat, spanTree, IsTree}
+use Rattle.grammar.specs.Tree.{Tree, nothing, leaf, bracket, block, node, flat, spanTree}
 use Rattle.grammar.specs.Blocks.{underBracket, underBlock, underOperator}
 use Rattle.grammar.specs.Nodes.{nameKind, numberKind, leafKind, charactersOffset, count, wordsPerNode, words}
 use Rattle.grammar.specs.Answer.{PastChecks, tokensOf, offsetOf}
 use Rattle.grammar.specs.Decoding.{
+  decodeTable,
   partOf,
   byteBefore,
   nameBehind,
@@ -47,7 +48,8 @@ use Rattle.grammar.proofs.Declarations.{declarations-of}
 use Rattle.grammar.proofs.Operands.{words-length}
 use Rattle.grammar.proofs.WordsOffsets.{block-size}
 use Rattle.grammar.proofs.BareNames.{Unquoted, quote-before}
-use Rattle.grammar.proofs.Present.{counted, Operands, operands}
+use Rattle.grammar.proofs.Present.{counted, no-node, Operands, operands}
+use Rattle.grammar.proofs.ReadingTrees.{IsReading}
 use Rattle.grammar.proofs.Subtrees.{
   Node,
   OperatorNode,
@@ -203,19 +205,21 @@ module _ (text : Bytes) (o : ℕ → ℕ) (ws : List ℕ) where
       (operator-node text o ws l m r i n s k e)
 
 -- A table that begins with the words of a text's tree.
-module _ (text : Bytes) (ps : List Placed) (h : PastChecks text ps) (t : Tree) (is : IsTree startTable (tokensOf ps) t) (v : List ℕ) where
+module _ (text : Bytes) (ps : List Placed) (h : PastChecks text ps) (t : Tree) (is : IsReading (tokensOf ps) t) (v : List ℕ) where
   abbrev offsets : ℕ → ℕ
   offsets = offsetOf text ps
 
   abbrev table : List ℕ
   table = words offsets t 0 0 ++ v
 
-  -- The words of a text's tree decode to it.
-  pub decode-tree : decode text (words (offsetOf text ps) t 0 0 ++ v) (pred (count t)) ≡ some t
-  unfolding decode
-  decode-tree =
-      let nodes = counted t (is .outer .1) in
-      decodes text offsets table (suc (pred (count t))) t 0 0 (pred (count t)) (text-subtree text ps h t is v) (omega arith) (omega arith)
+  -- The words of what a text reads as decode to it.
+  pub decode-tree : decodeTable text (words (offsetOf text ps) t 0 0 ++ v) (count t) ≡ some t
+  unfolding decodeTable decode
+  decode-tree = go (count t) refl
+    where
+      go : (c : ℕ) → count t ≡ c → decodeTable text table c ≡ some t
+      go zero e = rw (no-node t e)
+      go (suc k) e = decodes text offsets table (suc k) t 0 0 k (text-subtree text ps h t is v (omega arith)) (omega arith) (omega arith)
 
   -- "Children come before parents, left before right"; unused words are 0.
   pub nodes-ordered : (k : ℕ) → k < count t → Ordered (words (offsetOf text ps) t 0 0 ++ v) k

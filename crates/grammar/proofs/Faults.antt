@@ -18,9 +18,9 @@ use Rattle.grammar.specs.Scan.{Placed, scan}
 use Rattle.grammar.specs.Nesting.{nesting}
 use Rattle.grammar.specs.Declaration.{startTable}
 use Rattle.grammar.specs.Tree.{Tree}
-use Rattle.grammar.specs.Blocks.{checkBlocks, treeOf}
+use Rattle.grammar.specs.Blocks.{checkBlocks}
 use Rattle.grammar.specs.Fault.{longestText, mostTokens, HasTokens, BeforeEleven, Fault, tooLong, inTokens, inNesting, inBlocks, Past}
-use Rattle.grammar.specs.Answer.{Reading, PastChecks, tokensOf, offsetOf, readSpans, readTokens, readText}
+use Rattle.grammar.specs.Answer.{Reading, PastChecks, tokensOf, offsetOf, readingTree, readSpans, readTokens, readText}
 use Rattle.grammar.proofs.Logic.{impossible}
 use Rattle.grammar.proofs.Scanned.{length-tokens, scan-spelled, spells-unique}
 use Rattle.grammar.proofs.TokenFaults.{scan-fault, token-at, scanned-exactly}
@@ -80,7 +80,7 @@ module _ (text : Bytes) (short : length text ≤ longestText) (ps : List Placed)
   tokens-told n p l e = after-nesting (andThen-refused (placed (offsetOf text ps) nested) _ n p e)
     where
       later : Outcome Reading
-      later = andThen (placed (offsetOf text ps) declared) (λ v. readSpans text ps (treeOf startTable ts))
+      later = andThen (placed (offsetOf text ps) declared) (λ v. readSpans text ps (readingTree ts))
 
       in-bytes : (i : ℕ) → p ≡ offsetOf text ps i → Fault text n (offsetOf text ps i) → Fault text n p
       in-bytes i q f = subst (Fault text n) (sym q) f
@@ -88,10 +88,10 @@ module _ (text : Bytes) (short : length text ≤ longestText) (ps : List Placed)
       after-blocks :
           nested ≡ passed tt
           → (placed (offsetOf text ps) declared ≡ refused n p)
-          ⊎ ((u : Unit {0}) × (placed (offsetOf text ps) declared ≡ passed u) × (readSpans text ps (treeOf startTable ts) ≡ refused n p))
+          ⊎ ((u : Unit {0}) × (placed (offsetOf text ps) declared ≡ passed u) × (readSpans text ps (readingTree ts) ≡ refused n p))
           → Fault text n p
       after-blocks h (inl f) = let (i, g, q) = placed-at (offsetOf text ps) declared n p f in in-bytes i q (blocks-told h n i g)
-      after-blocks h (inr f) = absurd (not-eleven n l (spans-eleven text ps (treeOf startTable ts) n p (f .2)))
+      after-blocks h (inr f) = absurd (not-eleven n l (spans-eleven text ps (readingTree ts) n p (f .2)))
 
       after-nesting :
           (placed (offsetOf text ps) nested ≡ refused n p)
@@ -178,7 +178,7 @@ checked-past text ps h =
       faultless =
           λ n p f.
           let (e, b) = fault-refusal text n p f in
-          not-eleven n b (spans-eleven text ps (treeOf startTable (tokensOf ps)) n p (sym (past-reads text ps h) ∙ e));
+          not-eleven n b (spans-eleven text ps (readingTree (tokensOf ps)) n p (sym (past-reads text ps h) ∙ e));
     }
 
 -- .. and the other way round: a check that refused would be a fault.

@@ -40,6 +40,8 @@ pub mod SpansRelation
 pub mod BlockFaults
 pub mod RefusalNumbers
 pub mod RefusalPlaces
+pub mod Present
+pub mod ReadingTrees
 pub mod Readings
 pub mod Faults
 pub mod ReservedRoles
@@ -51,10 +53,11 @@ pub mod CanonicalSize
 pub mod CanonicalTokens
 pub mod CanonicalAgreement
 pub mod RoundTrip
+pub mod BlankTexts
 pub mod Rules
+pub mod BlankRules
 pub mod Answers
 pub mod BareNames
-pub mod Present
 pub mod Subtrees
 pub mod NodeCharacters
 pub mod Decoding

@@ -12,12 +12,13 @@ use Rattle.grammar.specs.Bytes.{Bytes}
 use Rattle.grammar.specs.Token.{structure, symbol, keywordLet, keywordIn, spelling, Atom, characters}
 use Rattle.grammar.specs.Operator.{Fixity, Prefix, Infix, Postfix}
 use Rattle.grammar.specs.Scan.{Placed}
-use Rattle.grammar.specs.Declaration.{Declaration, startTable, allTokens}
-use Rattle.grammar.specs.Tree.{Tree, nothing, leaf, bracket, block, node, flat, IsTree}
+use Rattle.grammar.specs.Declaration.{Declaration, allTokens}
+use Rattle.grammar.specs.Tree.{Tree, nothing, leaf, bracket, block, node, flat}
 use Rattle.grammar.specs.Nodes.{charactersOffset, count, words}
 use Rattle.grammar.specs.Answer.{PastChecks, tokensOf, offsetOf}
 use Rattle.grammar.specs.Decoding.{partOf}
 use Rattle.grammar.specs.Claim.{nodeNames, nodeBlocks, FromLetToIn}
+use Rattle.grammar.proofs.ReadingTrees.{IsReading}
 use Rattle.grammar.proofs.Logic.{impossible, below}
 use Rattle.grammar.proofs.Offsets.{characters-stand}
 use Rattle.grammar.proofs.TextParts.{Part, Stand, part}
@@ -148,7 +149,7 @@ module _ (text : Bytes) (o : ℕ → ℕ) where
         ∙ characters-stand text (symbol m) (o (i + length (flat l))) _ (operator-stands text o ws l m r i n s .0 .written)
 
 -- A table that begins with the words of a text's tree.
-module _ (text : Bytes) (ps : List Placed) (h : PastChecks text ps) (t : Tree) (is : IsTree startTable (tokensOf ps) t) (v : List ℕ) where
+module _ (text : Bytes) (ps : List Placed) (h : PastChecks text ps) (t : Tree) (is : IsReading (tokensOf ps) t) (v : List ℕ) where
   abbrev table : List ℕ
   table = words (offsetOf text ps) t 0 0 ++ v
 

@@ -1,12 +1,15 @@
--- Which trees are there: those that have nodes. So the fixity of an operator tells which operands it has.
+-- Which trees are there: those that have nodes, and so tokens. So the fixity of an operator tells which operands it has.
 use mathlib.Core.Path.{_≡_, refl, sym}
 use mathlib.Core.Bool.{Bool, true, false, true≢false}
+use mathlib.Core.List.{_∷_}
 use mathlib.Core.Option.{some}
 use Prim.Native.Nat.{_≤_}
 use native.Mathlib.Omega.{arith}
+use lib.ListN.{length, length-append}
+use Rattle.grammar.specs.Token.{symbol, atom}
 use Rattle.grammar.specs.Operator.{Fixity, Prefix, Infix, Postfix}
 use Rattle.grammar.specs.SpanTree.{present, fixityBy, fixity}
-use Rattle.grammar.specs.Tree.{Tree, nothing, leaf, bracket, block, node, spanTree}
+use Rattle.grammar.specs.Tree.{Tree, nothing, leaf, bracket, block, node, flat, spanTree}
 use Rattle.grammar.specs.Nodes.{count}
 use Rattle.grammar.proofs.Logic.{impossible}
 
@@ -26,6 +29,31 @@ some-node (leaf a) l = refl
 some-node (bracket t) l = refl
 some-node (block ds t) l = refl
 some-node (node l m r) h = refl
+
+pub no-node : (t : Tree) → count t ≡ 0 → t ≡ nothing
+unfolding count
+no-node nothing e = refl
+no-node (leaf a) e = absurd (omega arith)
+no-node (bracket t) e = absurd (omega arith)
+no-node (block ds t) e = absurd (omega arith)
+no-node (node l m r) e = absurd (omega arith)
+
+-- So it is with tokens.
+pub some-token : (t : Tree) → 1 ≤ length (flat t) → present (spanTree t) ≡ true
+unfolding flat present spanTree
+some-token nothing l = absurd (omega arith)
+some-token (leaf a) l = refl
+some-token (bracket t) l = refl
+some-token (block ds t) l = refl
+some-token (node l m r) h = refl
+
+pub no-token : (t : Tree) → length (flat t) ≡ 0 → t ≡ nothing
+unfolding flat
+no-token nothing e = refl
+no-token (leaf a) e = absurd (omega arith)
+no-token (bracket t) e = absurd (omega arith)
+no-token (block ds t) e = absurd (omega arith)
+no-token (node l m r) e = absurd (omega (arith, length-append (flat l) (atom (symbol m) ∷ flat r)))
 
 absent : (t : Tree) → present (spanTree t) ≡ false → t ≡ nothing
 unfolding present spanTree

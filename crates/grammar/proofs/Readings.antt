@@ -1,5 +1,5 @@
--- Of texts: what is read is a tree of the text's own tokens and the only one; a text past checks 1 to 10 is refused with 11 exactly
--- where it has no tree, at its first span that has none.
+-- Of texts: what is read is a tree of the text's own tokens and the only one, or of none the blank rule; a text past checks 1 to 10 that has
+-- tokens is refused with 11 exactly where it has no tree, at its first span that has none.
 use mathlib.Core.Path.{_≡_, refl, sym, ap, _∙_}
 use mathlib.Core.Logic.{_⊎_, inl, inr, ⊎-elim}
 use mathlib.Core.Bool.{Bool, true, false}
@@ -13,6 +13,7 @@ use borrow.Author.Tests.{leb-true, le-leb}
 use Rattle.grammar.specs.Fault.{longestText, mostTokens}
 use Rattle.grammar.specs.Spans.{Span, startOf}
 use Rattle.grammar.specs.Bytes.{Bytes}
+use Rattle.grammar.specs.Token.{Token}
 use Rattle.grammar.specs.Outcome.{Outcome, refused, passed, andThen, placed}
 use Rattle.grammar.specs.Scan.{Placed, scan}
 use Rattle.grammar.specs.Operator.{Conditions}
@@ -20,14 +21,15 @@ use Rattle.grammar.specs.Declaration.{startTable}
 use Rattle.grammar.specs.Nesting.{nesting}
 use Rattle.grammar.specs.SpanTree.{SpanTree}
 use Rattle.grammar.specs.Tree.{Tree, IsTree}
+use Rattle.grammar.specs.Blank.{blankRule}
 use Rattle.grammar.specs.Climb.{climb}
 use Rattle.grammar.specs.Blocks.{firstWithout, checkBlocks, treeOf, treelessOpener, treeIn}
-use Rattle.grammar.specs.Answer.{Reading, PastChecks, tokensOf, offsetOf, spanOffset, readSpans, readTokens, readText, spansOf}
+use Rattle.grammar.specs.Answer.{Reading, PastChecks, tokensOf, offsetOf, spanOffset, readingTree, readSpans, readTokens, readText, spansOf}
 use Rattle.grammar.specs.Claim.{HasNoTree}
 use Rattle.grammar.proofs.Scanned.{length-tokens}
 use Rattle.grammar.proofs.CheckedTrees.{IsCheckedTree, checked-tree}
 use Rattle.grammar.proofs.BlocksLawful.{tree-checked}
-use Rattle.grammar.proofs.Operands.{Operated, treeIn-operated}
+use Rattle.grammar.proofs.ReadingTrees.{IsReading, of-tree, of-none, reading-complete}
 use Rattle.grammar.proofs.Lists.{all-right}
 use Rattle.grammar.proofs.Climb.{climb-sound}
 use Rattle.grammar.proofs.Unambiguous.{conditions-unambiguous}
@@ -37,7 +39,6 @@ use Rattle.grammar.proofs.ItemLists.{andThen-passed, andThen-refused}
 use Rattle.grammar.proofs.RefusalNumbers.{scan-number, nesting-number, blocks-number}
 use Rattle.grammar.proofs.ConditionsTest.{conditions-start}
 use Rattle.grammar.proofs.Nested.{nesting-anywhere}
-use Rattle.grammar.proofs.TextTree.{treeOf-complete}
 use Rattle.grammar.proofs.TextSound.{Nested, treeIn-sound}
 use Rattle.grammar.proofs.Spans.{
   firstWithout-none,
@@ -65,7 +66,7 @@ placed-refused f (refused m q) n p e = (q, cc)
 placed-refused f (passed b) n p e = impossible cc
 
 -- Past checks 1 to 10 only check 11 is left.
-pub past-reads : (text : Bytes) (ps : List Placed) → PastChecks text ps → readText text ≡ readSpans text ps (treeOf startTable (tokensOf ps))
+pub past-reads : (text : Bytes) (ps : List Placed) → PastChecks text ps → readText text ≡ readSpans text ps (readingTree (tokensOf ps))
 unfolding readText readTokens andThen placed
 past-reads text ps h =
     let b = h .nested in
@@ -82,16 +83,16 @@ readSpans-found text ps (some t) r e =
 
 readTokens-past :
     (text : Bytes) (ps : List Placed) (r : Reading) → length text ≤ longestText → scan mostTokens 0 text ≡ passed ps → readTokens text ps ≡ passed r
-    → PastChecks text ps × (readSpans text ps (treeOf startTable (tokensOf ps)) ≡ passed r)
+    → PastChecks text ps × (readSpans text ps (readingTree (tokensOf ps)) ≡ passed r)
 unfolding readTokens
 readTokens-past text ps r n q e =
     let f = offsetOf text ps in
     let a =
     andThen-passed (placed f (nesting [] 0 (tokensOf ps)))
-    (λ u. andThen (placed f (checkBlocks (suc (length ps)) startTable 0 (tokensOf ps))) (λ v. readSpans text ps (treeOf startTable (tokensOf ps)))) r e in
+    (λ u. andThen (placed f (checkBlocks (suc (length ps)) startTable 0 (tokensOf ps))) (λ v. readSpans text ps (readingTree (tokensOf ps)))) r e in
     let b =
     andThen-passed (placed f (checkBlocks (suc (length ps)) startTable 0 (tokensOf ps)))
-    (λ v. readSpans text ps (treeOf startTable (tokensOf ps))) r (a .2) in (
+    (λ v. readSpans text ps (readingTree (tokensOf ps))) r (a .2) in (
       record {
         short = n;
         scanned = q;
@@ -102,11 +103,11 @@ readTokens-past text ps r n q e =
     )
 
 -- A text that is read is past checks 1 to 10.
-read-past : (text : Bytes) (r : Reading) → readText text ≡ passed r → (ps : List Placed) × PastChecks text ps × (readSpans text ps (treeOf startTable (tokensOf ps)) ≡ passed r)
+read-past : (text : Bytes) (r : Reading) → readText text ≡ passed r → (ps : List Placed) × PastChecks text ps × (readSpans text ps (readingTree (tokensOf ps)) ≡ passed r)
 unfolding readText
 read-past text r e = go (leb (length text) longestText) refl
   where
-    go : (b : Bool) → leb (length text) longestText ≡ b → (ps : List Placed) × PastChecks text ps × (readSpans text ps (treeOf startTable (tokensOf ps)) ≡ passed r)
+    go : (b : Bool) → leb (length text) longestText ≡ b → (ps : List Placed) × PastChecks text ps × (readSpans text ps (readingTree (tokensOf ps)) ≡ passed r)
     go true q =
         let a = andThen-passed (scan mostTokens 0 text) (readTokens text) r (rw (q, readText) at e) in
         let h = readTokens-past text (a .0) r (leb-true (length text) longestText q) (a .1) (a .2) in
@@ -122,36 +123,36 @@ pub text-checked :
     (text : Bytes) (ps : List Placed) → PastChecks text ps → (t : Tree) → IsTree startTable (tokensOf ps) t → IsCheckedTree startTable (tokensOf ps) t
 text-checked text ps h t = tree-checked (suc (length ps)) startTable 0 (tokensOf ps) t (rw (length-tokens ps) (omega arith)) (h .declared)
 
--- What is read is a tree of the text's own tokens ..
-pub reading-checked : (text : Bytes) (r : Reading) → readText text ≡ passed r → PastChecks text (r .tokens) × IsCheckedTree startTable (tokensOf (r .tokens)) (r .tree)
-unfolding treeOf
-reading-checked text r e =
-    let h = read-past text r e in
-    let ps = h .0 in
-    let g = readSpans-found text ps (treeOf startTable (tokensOf ps)) r (h .2) in
-    let t =
-    treeIn-sound (suc (length (tokensOf ps))) (suc (length ps)) startTable 0 (tokensOf ps) (r .tree) (nested-tokens text ps (h .1))
-    (rw (length-tokens ps) (omega arith)) (h .1 .declared) (g .1) in
-    (rw (g .0) (h .1), rw (g .0) t)
+-- What is read is of the text's own tokens: of some a tree, of none the blank rule.
+reading-sound :
+    (text : Bytes) (ps : List Placed) → PastChecks text ps → (ts : List Token) → tokensOf ps ≡ ts → (t : Tree) → readingTree ts ≡ some t
+    → IsReading ts t
+unfolding readingTree treeOf
+reading-sound text ps h [] q t e = let b : t ≡ blankRule = cc in rw b of-none
+reading-sound text ps h (x ∷ ts) q t e =
+    let found : treeOf startTable (tokensOf ps) ≡ some t = rw q e in
+    rw q at
+    (of-tree
+    (treeIn-sound (suc (length (tokensOf ps))) (suc (length ps)) startTable 0 (tokensOf ps) t (nested-tokens text ps h)
+    (rw (length-tokens ps) (omega arith)) (h .declared) found))
 
-pub reading-tree : (text : Bytes) (r : Reading) → readText text ≡ passed r → PastChecks text (r .tokens) × IsTree startTable (tokensOf (r .tokens)) (r .tree)
-reading-tree text r e = let (h, i) = reading-checked text r e in (h, checked-tree i)
+pub reading-of-tokens : (text : Bytes) (r : Reading) → readText text ≡ passed r → PastChecks text (r .tokens) × IsReading (tokensOf (r .tokens)) (r .tree)
+reading-of-tokens text r e =
+    let (ps, h, f) = read-past text r e in
+    let (p, q) = readSpans-found text ps (readingTree (tokensOf ps)) r f in
+    (rw p h, rw p (reading-sound text ps h (tokensOf ps) refl (r .tree) q))
 
--- .. whose operators have operands ..
-pub reading-operated : (text : Bytes) (r : Reading) → readText text ≡ passed r → Operated (r .tree)
-unfolding treeOf
-reading-operated text r e =
-    let h = read-past text r e in
-    let g = readSpans-found text (h .0) (treeOf startTable (tokensOf (h .0))) r (h .2) in
-    treeIn-operated (suc (length (tokensOf (h .0)))) startTable (tokensOf (h .0)) (r .tree) (g .1)
+pub some-tokens : (ps : List Placed) → 0 < length ps → readingTree (tokensOf ps) ≡ treeOf startTable (tokensOf ps)
+unfolding tokensOf readingTree
+some-tokens [] l = absurd (omega arith)
+some-tokens (p ∷ ps) l = refl
 
--- A text past checks 1 to 10 that has a tree is read, and that tree is what is read.
-pub tree-read :
-    (text : Bytes) (ps : List Placed) → PastChecks text ps → (t : Tree) → IsTree startTable (tokensOf ps) t
+-- A text past checks 1 to 10 that can be read as `t` is read so.
+pub read-as :
+    (text : Bytes) (ps : List Placed) → PastChecks text ps → (t : Tree) → IsReading (tokensOf ps) t
     → readText text ≡ passed (record { tokens = ps; tree = t })
 unfolding readSpans
-tree-read text ps h t i =
-    past-reads text ps h ∙ ap (readSpans text ps) (treeOf-complete startTable conditions-start (tokensOf ps) t (text-checked text ps h t i))
+read-as text ps h t i = past-reads text ps h ∙ ap (readSpans text ps) (reading-complete (tokensOf ps) t i)
 
 -- A text past checks 1 to 10 that has no tree is refused with 11, at the first of its spans that has none.
 span-among : (ss xs ys : List Span) (s : Span) → ss ≡ xs ++ s ∷ ys → List·Memᴰ s ss
@@ -217,11 +218,14 @@ spans-refuse ps o e = go (treeOf startTable (tokensOf ps)) refl
         (firstWithout-all (spansOf ps) (spans-have (suc (length ps)) (suc (length (tokensOf ps))) startTable none 0 (tokensOf ps) t q)))
 
 pub treeless-refused :
-    (text : Bytes) (ps : List Placed) → PastChecks text ps → ((t : Tree) → IsTree startTable (tokensOf ps) t → ⊥)
-    → (p : ℕ) × (readText text ≡ refused 11 p) × FirstListed text ps p
-unfolding readSpans treelessOpener treeOf
-treeless-refused text ps h never = go (firstWithout (spansOf ps)) refl
+    (text : Bytes) (x : Placed) (xs : List Placed) → PastChecks text (x ∷ xs) → ((t : Tree) → IsTree startTable (tokensOf (x ∷ xs)) t → ⊥)
+    → (p : ℕ) × (readText text ≡ refused 11 p) × FirstListed text (x ∷ xs) p
+unfolding readSpans treelessOpener treeOf readingTree tokensOf
+treeless-refused text x xs h never = go (firstWithout (spansOf ps)) refl
   where
+    ps : List Placed
+    ps = x ∷ xs
+
     go : (o : Option (Option ℕ)) → firstWithout (spansOf ps) ≡ o → (p : ℕ) × (readText text ≡ refused 11 p) × FirstListed text ps p
     go none e =
         let t = spans-pass text ps h e in
@@ -244,7 +248,7 @@ unfolding readTokens
 eleven-tokens text ps p n q e =
     go
     (andThen-refused (placed f (nesting [] 0 (tokensOf ps)))
-    (λ u. andThen (placed f (checkBlocks (suc (length ps)) startTable 0 (tokensOf ps))) (λ v. readSpans text ps (treeOf startTable (tokensOf ps)))) 11 p e)
+    (λ u. andThen (placed f (checkBlocks (suc (length ps)) startTable 0 (tokensOf ps))) (λ v. readSpans text ps (readingTree (tokensOf ps)))) 11 p e)
   where
     f : ℕ → ℕ
     f = offsetOf text ps
@@ -252,7 +256,7 @@ eleven-tokens text ps p n q e =
     checked :
         nesting [] 0 (tokensOf ps) ≡ passed tt
         → (placed f (checkBlocks (suc (length ps)) startTable 0 (tokensOf ps)) ≡ refused 11 p)
-        ⊎ ((u : Unit {0}) × (placed f (checkBlocks (suc (length ps)) startTable 0 (tokensOf ps)) ≡ passed u) × (readSpans text ps (treeOf startTable (tokensOf ps)) ≡ refused 11 p))
+        ⊎ ((u : Unit {0}) × (placed f (checkBlocks (suc (length ps)) startTable 0 (tokensOf ps)) ≡ passed u) × (readSpans text ps (readingTree (tokensOf ps)) ≡ refused 11 p))
         → PastChecks text ps
     checked h (inl b) =
         let c = placed-refused f (checkBlocks (suc (length ps)) startTable 0 (tokensOf ps)) 11 p b in
@@ -263,14 +267,14 @@ eleven-tokens text ps p n q e =
     go :
         (placed f (nesting [] 0 (tokensOf ps)) ≡ refused 11 p)
         ⊎ ((u : Unit {0}) × (placed f (nesting [] 0 (tokensOf ps)) ≡ passed u)
-        × (andThen (placed f (checkBlocks (suc (length ps)) startTable 0 (tokensOf ps))) (λ v. readSpans text ps (treeOf startTable (tokensOf ps))) ≡ refused 11 p))
+        × (andThen (placed f (checkBlocks (suc (length ps)) startTable 0 (tokensOf ps))) (λ v. readSpans text ps (readingTree (tokensOf ps))) ≡ refused 11 p))
         → PastChecks text ps
     go (inl a) =
         let c = placed-refused f (nesting [] 0 (tokensOf ps)) 11 p a in
         absurd (omega (arith, nesting-number [] 0 (tokensOf ps) 11 (c .0) (c .1)))
     go (inr a) =
         checked (placed-passed f (nesting [] 0 (tokensOf ps)) (a .0) (a .1))
-        (andThen-refused (placed f (checkBlocks (suc (length ps)) startTable 0 (tokensOf ps))) (λ v. readSpans text ps (treeOf startTable (tokensOf ps))) 11 p (a .2))
+        (andThen-refused (placed f (checkBlocks (suc (length ps)) startTable 0 (tokensOf ps))) (λ v. readSpans text ps (readingTree (tokensOf ps))) 11 p (a .2))
 
 eleven-past : (text : Bytes) (p : ℕ) → readText text ≡ refused 11 p → (ps : List Placed) × PastChecks text ps
 unfolding readText
@@ -294,15 +298,22 @@ eleven-past text p e = go (leb (length text) longestText) refl
 refused-place : {o : Outcome Reading} {n m p q : ℕ} → o ≡ refused n p → o ≡ refused m q → p ≡ q
 refused-place d e = cc
 
--- A text refused with 11 has no tree, and the place is that of its first span without one.
+-- A text refused with 11 has a token and no tree, and the place is that of its first span without one.
 pub refused-treeless :
     (text : Bytes) (p : ℕ) → readText text ≡ refused 11 p
-    → (ps : List Placed) × PastChecks text ps × ((t : Tree) → IsTree startTable (tokensOf ps) t → ⊥) × FirstListed text ps p
-refused-treeless text p e =
-    let h = eleven-past text p e in
-    let ps = h .0 in
-    let never : (t : Tree) → IsTree startTable (tokensOf ps) t → ⊥ =
-    λ t i. let g = tree-read text ps (h .1) t i in impossible cc in
-    let q = treeless-refused text ps (h .1) never in
-    let s : q .0 ≡ p = refused-place (q .1) e in
-    (ps, h .1, never, rw s at (q .2))
+    → (x : Placed) × (xs : List Placed) × PastChecks text (x ∷ xs) × ((t : Tree) → IsTree startTable (tokensOf (x ∷ xs)) t → ⊥)
+    × FirstListed text (x ∷ xs) p
+unfolding tokensOf
+refused-treeless text p e = let (ps, h) = eleven-past text p e in go ps h
+  where
+    go :
+        (ps : List Placed) → PastChecks text ps
+        → (x : Placed) × (xs : List Placed) × PastChecks text (x ∷ xs) × ((t : Tree) → IsTree startTable (tokensOf (x ∷ xs)) t → ⊥)
+        × FirstListed text (x ∷ xs) p
+    go [] h = let g = read-as text [] h blankRule of-none in impossible cc
+    go (x ∷ xs) h =
+        let never : (t : Tree) → IsTree startTable (tokensOf (x ∷ xs)) t → ⊥ =
+        λ t i. let g = read-as text (x ∷ xs) h t (of-tree (text-checked text (x ∷ xs) h t i)) in impossible cc in
+        let (q, f, first) = treeless-refused text x xs h never in
+        let same : q ≡ p = refused-place f e in
+        (x, xs, h, never, rw same at first)

@@ -29,7 +29,7 @@ use Rattle.grammar.specs.Fault.{
   PastReserving,
   Declares,
 }
-use Rattle.grammar.specs.Claim.{TreeReserving}
+use Rattle.grammar.specs.Claim.{TreeReserving, ReadingReserving, ofTree, ofBlank}
 use Rattle.grammar.proofs.Declarations.{declarations-first}
 use Rattle.grammar.proofs.DeclarationFaults.{effect-allowed}
 
@@ -120,5 +120,9 @@ module _ (R S : Bytes → Bool) (text : Bytes) (alike : Alike R S text) where
   pub same-past : {ts : List Token} → PastReserving R text ts → PastReserving S text ts
   same-past h = record { spelled = h .spelled; faultless = λ n p f. h .faultless n p (same-fault S R text (λ d m. sym (alike d m)) f) }
 
-  pub same-trees : {t : Tree} → TreeReserving R text t → TreeReserving S text t
+  same-trees : {t : Tree} → TreeReserving R text t → TreeReserving S text t
   same-trees h = record { tokens = h .tokens; past = same-past (h .past); isTree = h .isTree }
+
+  pub same-readings : {t : Tree} → ReadingReserving R text t → ReadingReserving S text t
+  same-readings (ofTree h) = ofTree (same-trees h)
+  same-readings (ofBlank b) = ofBlank b

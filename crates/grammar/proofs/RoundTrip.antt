@@ -20,23 +20,21 @@ use Rattle.grammar.specs.Abstract.{abstract, Agree}
 use Rattle.grammar.specs.Canonical.{canonical, canonicalText, joinTokens}
 use Rattle.grammar.specs.Answer.{Reading, PastChecks, tokensOf, readText, readingText}
 use Rattle.grammar.specs.Claim.{canonicalTree, Faithful}
-use Rattle.grammar.proofs.CheckedTrees.{IsCheckedTree, checked-tree}
 use Rattle.grammar.proofs.Nested.{nesting-flat, nesting-depth}
 use Rattle.grammar.proofs.Operators.{positive-start}
-use Rattle.grammar.proofs.ConditionsTest.{conditions-start}
 use Rattle.grammar.proofs.Scanned.{length-tokens, scan-joined, join-injective, scan-tokens}
-use Rattle.grammar.proofs.CanonicalTree.{canonical-ok, canonical-present, canonical-tight}
+use Rattle.grammar.proofs.CanonicalTree.{canonical-ok, canonical-tight}
 use Rattle.grammar.proofs.CanonicalSize.{canonical-shorter, canonical-shallower}
 use Rattle.grammar.proofs.CanonicalTokens.{canonical-tokens}
 use Rattle.grammar.proofs.CanonicalAgreement.{canonical-agrees, canonical-by-agreement, leaves-ok}
-use Rattle.grammar.proofs.TextTree.{tree-unique}
+use Rattle.grammar.proofs.ReadingTrees.{IsReading, reading-unique}
 use Rattle.grammar.proofs.TreeBlocks.{Enters, checked-enters, enters-checked, canonical-enters}
 use Rattle.grammar.proofs.Answers.{count-tokens}
-use Rattle.grammar.proofs.Readings.{reading-checked, tree-read}
+use Rattle.grammar.proofs.Readings.{reading-of-tokens, read-as}
 
--- What is known of the tree of a text that was read.
+-- What is known of what a text was read as.
 record Facts (r : Reading) : Type 0 where
-  isTree : IsCheckedTree startTable (flat (r .tree)) (r .tree)
+  isReading : IsReading (flat (r .tree)) (r .tree)
   tokens : areTokens (flat (r .tree)) ≡ true
   few : length (flat (r .tree)) ≤ mostTokens
   shallow : depth (r .tree) ≤ deepest
@@ -44,13 +42,13 @@ record Facts (r : Reading) : Type 0 where
 
 facts : (text : Bytes) (r : Reading) → readText text ≡ passed r → Facts r
 facts text r e =
-    let h = reading-checked text r e in
+    let h = reading-of-tokens text r e in
     let ps = r .tokens in
     let i = h .1 in
     let f : flat (r .tree) ≡ tokensOf ps = i .tokens in
     let s = scan-tokens mostTokens 0 text ps (h .0 .scanned) in
     record {
-      isTree = record { tokens = refl; outer = i .outer; inner = i .inner };
+      isReading = record { tokens = refl; admitted = i .admitted; inner = i .inner };
       tokens = rw f (s .0);
       few = rw (f, length-tokens ps) (s .1);
       shallow = nesting-depth (r .tree) 0 (rw f (h .0 .nested));
@@ -62,15 +60,15 @@ facts text r e =
 canonical-facts : (r : Reading) → Facts r → Facts (record { tokens = r .tokens; tree = canonical startTable (r .tree) })
 canonical-facts r f =
     let t = r .tree in
-    let a = f .isTree .outer .0 in
-    let i = f .isTree .inner in
+    let a = f .isReading .admitted in
+    let i = f .isReading .inner in
     let k = canonical-ok startTable t positive-start a i in
     let n = canonical-shorter startTable t positive-start a i in
     let d = canonical-shallower startTable t positive-start a i in
     let b = f .few in
     let c = f .shallow in
     record {
-      isTree = record { tokens = refl; outer = (k .0, canonical-present startTable t i ∙ f .isTree .outer .1); inner = k .1 };
+      isReading = record { tokens = refl; admitted = k .0; inner = k .1 };
       tokens = canonical-tokens startTable t a i (f .tokens);
       few = omega arith;
       shallow = omega arith;
@@ -92,7 +90,7 @@ canonical-past text r e n =
         short = n;
         scanned = s .1;
         nested = rw q (nesting-flat c (f .shallow) 0);
-        declared = rw q (enters-checked (suc (length (s .0))) startTable c (f .isTree .inner) (f .enters) 0);
+        declared = rw q (enters-checked (suc (length (s .0))) startTable c (f .isReading .inner) (f .enters) 0);
       },
       q,
     )
@@ -102,8 +100,8 @@ pub faithful : (text : Bytes) (r : Reading) → readText text ≡ passed r → F
 faithful text r e =
     let t = r .tree in
     let f = facts text r e in
-    let i = f .isTree .inner in
-    let a = f .isTree .outer .0 in
+    let i = f .isReading .inner in
+    let a = f .isReading .admitted in
     record {
       agrees = canonical-agrees startTable t;
       tight = canonical-tight startTable t positive-start i;
@@ -118,9 +116,9 @@ pub reads-back :
 reads-back text r e n =
     let c = canonicalTree (r .tree) in
     let h = canonical-past text r e n in
-    let g = canonical-facts r (facts text r e) .isTree in
-    let u : IsCheckedTree startTable (tokensOf (h .0)) c = record { tokens = sym (h .2); outer = g .outer; inner = g .inner } in
-    (record { tokens = h .0; tree = c }, tree-read (readingText r) (h .0) (h .1) c (checked-tree u), refl)
+    let g = canonical-facts r (facts text r e) .isReading in
+    let u : IsReading (tokensOf (h .0)) c = record { tokens = sym (h .2); admitted = g .admitted; inner = g .inner } in
+    (record { tokens = h .0; tree = c }, read-as (readingText r) (h .0) (h .1) c u, refl)
 
 -- Two canonical texts are the same bytes exactly where the trees, brackets removed, and the blocks' declarations agree.
 pub same-text :
@@ -134,14 +132,14 @@ same-text a b r q d e =
       (λ s.
           let w = join-injective (flat (canonical startTable (r .tree))) (flat (canonical startTable (q .tree))) (m .tokens) (n .tokens) s in
           let k =
-          tree-unique startTable conditions-start (flat (canonical startTable (q .tree))) (canonical startTable (r .tree)) (canonical startTable (q .tree))
-          (record { tokens = w; outer = m .isTree .outer; inner = m .isTree .inner }) (n .isTree) in
+          reading-unique (flat (canonical startTable (q .tree))) (canonical startTable (r .tree)) (canonical startTable (q .tree))
+          (record { tokens = w; admitted = m .isReading .admitted; inner = m .isReading .inner }) (n .isReading) in
           sym (canonical-agrees startTable (r .tree)) ∙ ap abstract k ∙ canonical-agrees startTable (q .tree)),
       (λ s.
           ap (λ t. joinTokens (flat t))
           (canonical-by-agreement startTable (r .tree) (q .tree)
-          (leaves-ok startTable (r .tree) (f .isTree .inner) (f .tokens))
-          (leaves-ok startTable (q .tree) (g .isTree .inner) (g .tokens)) s)),
+          (leaves-ok startTable (r .tree) (f .isReading .inner) (f .tokens))
+          (leaves-ok startTable (q .tree) (g .isReading .inner) (g .tokens)) s)),
     )
 
 -- A text that is read has at most 1,024 nodes.

@@ -15,7 +15,7 @@ use Rattle.grammar.specs.Scan.{Placed}
 use Rattle.grammar.specs.Declaration.{Declaration, startTable, allTokens, declareAll}
 use Rattle.grammar.specs.Fault.{mostTokens}
 use Rattle.grammar.specs.SpanTree.{present, fixity}
-use Rattle.grammar.specs.Tree.{Tree, nothing, leaf, bracket, block, node, flat, spanTree, IsTree}
+use Rattle.grammar.specs.Tree.{Tree, nothing, leaf, bracket, block, node, flat, spanTree}
 use Rattle.grammar.specs.Nodes.{
   prefixKind,
   infixKind,
@@ -34,9 +34,9 @@ use Rattle.grammar.specs.Answer.{PastChecks, tokensOf, offsetOf}
 use Rattle.grammar.specs.Decoding.{byteBefore, wordOf}
 use Rattle.grammar.proofs.Logic.{below}
 use Rattle.grammar.proofs.TextParts.{Stand, stand-left, stand-right, offsets-stand}
-use Rattle.grammar.proofs.Operands.{Operated, operated, words-length}
+use Rattle.grammar.proofs.Operands.{Operated, words-length}
 use Rattle.grammar.proofs.Scanned.{length-tokens, scan-tokens}
-use Rattle.grammar.proofs.Readings.{text-checked}
+use Rattle.grammar.proofs.ReadingTrees.{IsReading, reading-operated}
 use Rattle.grammar.proofs.CheckedTrees.{InnerChecked}
 use Rattle.grammar.proofs.TextTree.{bracket-shorter, block-shorter, left-shorter, right-shorter}
 use Rattle.grammar.proofs.Present.{some-node}
@@ -331,13 +331,13 @@ module _ (text : Bytes) (o : ℕ → ℕ) (ws : List ℕ) where
       (λ g. itself (node l m r) i n k s (omega arith) (later l (subtrees r ++ own) n k h ∙ later r own p k g ∙ only (node l m r) (k - (p + count r)) (omega arith))))
 
 -- A table that begins with the words of a text's tree.
-module _ (text : Bytes) (ps : List Placed) (h : PastChecks text ps) (t : Tree) (is : IsTree startTable (tokensOf ps) t) (v : List ℕ) where
-  pub text-subtree : Subtree text (offsetOf text ps) (words (offsetOf text ps) t 0 0 ++ v) t 0 0
-  text-subtree = record {
-    there = is .outer .1;
-    operated = operated startTable t (is .outer .0) (is .inner);
+module _ (text : Bytes) (ps : List Placed) (h : PastChecks text ps) (t : Tree) (is : IsReading (tokensOf ps) t) (v : List ℕ) where
+  pub text-subtree : 1 ≤ count t → Subtree text (offsetOf text ps) (words (offsetOf text ps) t 0 0 ++ v) t 0 0
+  text-subtree l = record {
+    there = some-node t l;
+    operated = reading-operated is;
     table = startTable;
-    checked = text-checked text ps h t is .inner;
+    checked = is .inner;
     stands = subst (Stand text (offsetOf text ps) 0) (sym (is .tokens)) (offsets-stand mostTokens text ps (h .scanned));
     fits = omega (arith, ap length (is .tokens), length-tokens ps, scan-tokens mostTokens 0 text ps (h .scanned) .1);
     bare = before-first mostTokens text ps (h .scanned);
@@ -346,4 +346,4 @@ module _ (text : Bytes) (ps : List Placed) (h : PastChecks text ps) (t : Tree) (
   }
 
   pub text-rooted : (k : ℕ) → k < count t → Rooted text (offsetOf text ps) (words (offsetOf text ps) t 0 0 ++ v) t 0 k
-  text-rooted k l = rooted text (offsetOf text ps) (words (offsetOf text ps) t 0 0 ++ v) t 0 0 text-subtree k (omega arith) (omega arith)
+  text-rooted k l = rooted text (offsetOf text ps) (words (offsetOf text ps) t 0 0 ++ v) t 0 0 (text-subtree (omega arith)) k (omega arith) (omega arith)

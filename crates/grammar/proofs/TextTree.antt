@@ -71,10 +71,3 @@ pub treeOf-complete : (T : Table) → Conditions T → (ts : List Token) (t : Tr
 unfolding treeOf
 treeOf-complete T c ts t h =
     rw (← (h .tokens)) (treeIn-complete (suc (length (flat t))) T t c (h .outer) (h .inner) (omega arith))
-
--- Any two trees of one text are the same tree.
-pub tree-unique : (T : Table) → Conditions T → (ts : List Token) (t u : Tree) → IsCheckedTree T ts t → IsCheckedTree T ts u → t ≡ u
-tree-unique T c ts t u h g =
-    let p = treeOf-complete T c ts t h in
-    let q = treeOf-complete T c ts u g in
-    cc

@@ -15,11 +15,12 @@ use Rattle.grammar.specs.Nesting.{nesting}
 use Rattle.grammar.specs.Declaration.{startTable}
 use Rattle.grammar.specs.Fault.{longestText, mostTokens}
 use Rattle.grammar.specs.Tree.{Tree}
+use Rattle.grammar.specs.Blank.{blankRule}
 use Rattle.grammar.specs.Blocks.{checkBlocks, spans, treelessOpener, treeOf}
 use Rattle.grammar.specs.Nodes.{count, words, wordsPerNode}
 use Rattle.grammar.specs.Canonical.{canonical, canonicalText}
 
--- A text that can be read: its tokens and its tree.
+-- A text that can be read: its tokens and what it is read as.
 pub record Reading : Type 0 where
   pub tokens : List Placed
   pub tree : Tree
@@ -45,7 +46,12 @@ spanOffset text ps (some i) = offsetOf text ps i
 abbrev pub spansOf : List Placed → List Span
 spansOf ps = spans (suc (length ps)) startTable none 0 (tokensOf ps)
 
--- Check 11: the tree of the text, or the place of its first span without one.
+-- What tokens are read as, if anything: their tree. 02, §7: "A text that is empty or all blanks .. is now read".
+unfoldable pub readingTree : List Token → Option Tree
+readingTree [] = some blankRule
+readingTree (t ∷ ts) = treeOf startTable (t ∷ ts)
+
+-- Check 11: what the text is read as, or the place of its first span without a tree.
 unfoldable pub readSpans : Bytes → List Placed → Option Tree → Outcome Reading
 readSpans text ps (some t) = passed (record { tokens = ps; tree = t })
 readSpans text ps none = refused 11 (spanOffset text ps (treelessOpener (spansOf ps)))
@@ -55,7 +61,7 @@ unfoldable pub readTokens : Bytes → List Placed → Outcome Reading
 readTokens text ps =
     andThen (placed (offsetOf text ps) (nesting [] 0 (tokensOf ps))) (λ u.
     andThen (placed (offsetOf text ps) (checkBlocks (suc (length ps)) startTable 0 (tokensOf ps))) (λ v.
-    readSpans text ps (treeOf startTable (tokensOf ps))))
+    readSpans text ps (readingTree (tokensOf ps))))
 
 -- "Order: 1; 2 to 5 ..; 6 and 7 ..; then blocks ..; then 11 ..": checks 1 to 11 and 17. Places are byte offsets.
 unfoldable pub readText : Bytes → Outcome Reading

@@ -11,6 +11,7 @@ use Rattle.grammar.specs.Spelling.{Spells, TokenAt}
 use Rattle.grammar.specs.Declaration.{Declaration, allTokens, startTable, areDeclarations, isReserved, Free, declareAll}
 use Rattle.grammar.specs.SpanTree.{SpanTree, IsSpanTree}
 use Rattle.grammar.specs.Tree.{Tree, nothing, leaf, bracket, block, node, IsTree, flat, depth}
+use Rattle.grammar.specs.Blank.{Blank, blankRule}
 use Rattle.grammar.specs.Canonical.{canonical, canonicalText, NoSpare}
 use Rattle.grammar.specs.Operator.{Conditions, Table}
 use Rattle.grammar.specs.Spans.{startOf, Span, SpanOf}
@@ -75,7 +76,15 @@ pub record TreeReserving (reserved : Bytes → Bool) (text : Bytes) (t : Tree) :
 abbrev pub TreeOf : Bytes → Tree → Type 0
 TreeOf = TreeReserving isReserved
 
--- The tree and the bytes of the canonical text of a rule with the tree `t`.
+-- What a text reads as: its tree. 02, §7: "A text that is empty or all blanks, past check 1, is now read".
+pub data ReadingReserving (reserved : Bytes → Bool) (text : Bytes) : Tree → Type 0 where
+  ofTree : {t : Tree} → TreeReserving reserved text t → ReadingReserving reserved text t
+  ofBlank : Blank text → ReadingReserving reserved text blankRule
+
+abbrev pub ReadingOf : Bytes → Tree → Type 0
+ReadingOf = ReadingReserving isReserved
+
+-- The tree and the bytes of the canonical text of a rule that reads as `t`.
 abbrev pub canonicalTree : Tree → Tree
 canonicalTree t = canonical startTable t
 

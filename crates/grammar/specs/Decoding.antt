@@ -15,6 +15,7 @@ use Rattle.grammar.specs.Scan.{Placed, scan}
 use Rattle.grammar.specs.Declaration.{Declaration, declarations}
 use Rattle.grammar.specs.Fault.{mostTokens}
 use Rattle.grammar.specs.Tree.{Tree, nothing, leaf}
+use Rattle.grammar.specs.Blank.{blankRule}
 use Rattle.grammar.specs.Blocks.{underBracket, underBlock, underOperator}
 use Rattle.grammar.specs.Nodes.{
   wordsPerNode,
@@ -118,6 +119,11 @@ decodeIn (suc n) text ws k =
 -- The tree whose root is node number `k`. "Children come before parents", so `k + 1` is fuel enough.
 unfoldable pub decode : Bytes → List ℕ → ℕ → Option Tree
 decode text ws k = decodeIn (suc k) text ws k
+
+-- What a table of `c` nodes stands for: the tree of its last node, "the root last". Without a node it is a blank rule (02, §7).
+unfoldable pub decodeTable : Bytes → List ℕ → ℕ → Option Tree
+decodeTable text ws zero = some blankRule
+decodeTable text ws (suc k) = decode text ws k
 
 -- What 01 says of node number `k`, by its kind: "Children come before parents, left before right"; "a lone child as the first; unused
 -- words 0"; "a bracket has 0 and 0".

@@ -12,6 +12,7 @@ pub mod Spans
 pub mod Fault
 pub mod SpanTree
 pub mod Tree
+pub mod Blank
 pub mod Climb
 pub mod Widest
 pub mod Blocks

@@ -1,9 +1,9 @@
 -- What holds of a call of either service. A service gives a refusal of checks 1 to 11 and 17 on; of a text that is read it writes something over
--- the buffer, or refuses with a number of its own where that does not fit. What is read is the tree of the text.
+-- the buffer, or refuses with a number of its own where that does not fit. What is read is what the text reads as.
 use mathlib.Core.Path.{_≡_, refl, sym, ap, _∙_}
 use mathlib.Core.Logic.{_↔_, _⊎_, inl, inr, ⊎-elim}
 use mathlib.Core.Bool.{Bool, true, false}
-use mathlib.Core.List.{List}
+use mathlib.Core.List.{List, _∷_}
 use Prim.Native.Nat.{ℕ, _≤_, _<_}
 use native.Mathlib.Omega.{arith}
 use Rattle.grammar.specs.Bytes.{Bytes}
@@ -11,13 +11,13 @@ use Rattle.grammar.specs.Token.{Token}
 use Rattle.grammar.specs.Outcome.{Outcome, refused, passed}
 use Rattle.grammar.specs.Tree.{Tree}
 use Rattle.grammar.specs.Fault.{BeforeEleven, Fault, Past}
-use Rattle.grammar.specs.Claim.{FirstWithout, TreeOf}
+use Rattle.grammar.specs.Claim.{FirstWithout, ReadingOf}
 use Rattle.grammar.specs.Answer.{Reading, Result, readText, over, rejection, success}
 use Rattle.grammar.proofs.Logic.{impossible, clash}
 use Rattle.grammar.proofs.RefusalNumbers.{OfChecks, numbered-holds}
 use Rattle.grammar.proofs.Answers.{read-numbered}
 use Rattle.grammar.proofs.Faults.{fault-exactly}
-use Rattle.grammar.proofs.Rules.{reading-of, tree-of, eleven-exactly}
+use Rattle.grammar.proofs.Rules.{reading-of, read-of, eleven-exactly}
 use Rattle.reader.specs.declared.Answer.{Answer}
 use Rattle.reader.specs.Answered.{answerOf, resultOf}
 use Rattle.reader.specs.Demands.{RightAnswer}
@@ -120,13 +120,14 @@ module _ (own : ℕ) (fits : Reading → Bool) (counted : Reading → ℕ) (cont
     )
 
     -- 11.
-    eleven : (p : ℕ) → ((a .number ≡ 11) × (a .offset ≡ p)) ↔ ((ts : List Token) × Past text ts × FirstWithout text ts p)
+    eleven :
+        (p : ℕ) → ((a .number ≡ 11) × (a .offset ≡ p)) ↔ ((x : Token) × (ts : List Token) × Past text (x ∷ ts) × FirstWithout text (x ∷ ts) p)
     eleven p =
         let e = eleven-exactly text p in
         let r = refusal-placed 11 p (inl (omega arith)) in
         (λ z. e .0 (r .0 z), λ w. r .1 (e .1 w))
 
-    -- A success writes what is read; what is read is a tree of the text.
+    -- A success writes what is read.
     pub success-reads :
         a .number ≡ 0 → (r : Reading) × (readText text ≡ passed r) × (fits r ≡ true) × (a .count ≡ counted r) × (B′ ≡ over (contents r) B)
     success-reads z =
@@ -142,11 +143,11 @@ module _ (own : ℕ) (fits : Reading → Bool) (counted : Reading → ℕ) (cont
 
     -- What fits, said of trees.
     module _ (Fits : Tree → Type 0) (same : (r : Reading) → (fits r ≡ true) ↔ Fits (r .tree)) where
-      -- 0 exactly where the text has a tree and it fits, ..
-      zero-exactly : (a .number ≡ 0) ↔ ((t : Tree) × TreeOf text t × Fits t)
+      -- 0 exactly where the text reads as something and it fits, ..
+      zero-exactly : (a .number ≡ 0) ↔ ((t : Tree) × ReadingOf text t × Fits t)
       zero-exactly = (
         λ z. let (r, e, t, c, w) = success-reads z in (r .tree, reading-of text r e, same r .0 t),
-        λ (t, h, f). let (r, e, q) = tree-of text t h in fitting r (same r .1 (rw q f)) (tested r e),
+        λ (t, h, f). let (r, e, q) = read-of text t h in fitting r (same r .1 (rw q f)) (tested r e),
       )
         where
           fitting : (r : Reading) → fits r ≡ true → ((fits r ≡ true) × (a .number ≡ 0)) ⊎ ((fits r ≡ false) × (a .number ≡ own)) → a .number ≡ 0
@@ -154,12 +155,12 @@ module _ (own : ℕ) (fits : Reading → Bool) (counted : Reading → ℕ) (cont
           fitting r t (inr w) = absurd (clash t (w .0))
 
       -- .. and the service's own number exactly where it does not.
-      own-exactly : (a .number ≡ own) ↔ ((t : Tree) × TreeOf text t × (Fits t → ⊥))
+      own-exactly : (a .number ≡ own) ↔ ((t : Tree) × ReadingOf text t × (Fits t → ⊥))
       own-exactly = (
         λ z.
             by-outcome (λ n p e k g. absurd (not-own n k (sym (g .number) ∙ z))) (λ r e t g. absurd (omega (arith, g .number, z)))
             (λ r e t g. (r .tree, reading-of text r e, λ f. clash (same r .1 f) t)),
-        λ (t, h, n). let (r, e, q) = tree-of text t h in failing r (λ f. n (rw q at f)) (tested r e),
+        λ (t, h, n). let (r, e, q) = read-of text t h in failing r (λ f. n (rw q at f)) (tested r e),
       )
         where
           failing : (r : Reading) → (Fits (r .tree) → ⊥) → ((fits r ≡ true) × (a .number ≡ 0)) ⊎ ((fits r ≡ false) × (a .number ≡ own)) → a .number ≡ own

@@ -16,11 +16,11 @@ use Rattle.grammar.specs.Declaration.{isReserved}
 use Rattle.grammar.specs.Tree.{Tree}
 use Rattle.grammar.specs.Abstract.{Agree}
 use Rattle.grammar.specs.Fault.{longestText}
-use Rattle.grammar.specs.Claim.{TreeOf, canonicalTree, canonicalBytes}
+use Rattle.grammar.specs.Claim.{ReadingOf, canonicalTree, canonicalBytes}
 use Rattle.grammar.specs.Answer as G
 use Rattle.grammar.specs.Answer.{Reading, readText, over, readingText, writeInto, canonicalizeInto}
 use Rattle.grammar.proofs.Logic.{and-left, and-right, and-intro}
-use Rattle.grammar.proofs.Rules.{reading-of, same-tree, canonical-read, canonical-same}
+use Rattle.grammar.proofs.Rules.{reading-of, same-reading, canonical-read, canonical-same}
 use Rattle.reader.specs.declared.Answer.{Answer}
 use Rattle.reader.specs.Answered.{resultOf, Reads, Canonicalizes}
 use Rattle.reader.specs.Demands.{RightAnswer, TableFits, BufferFits, TableHolds, BufferHolds, RightCanonical}
@@ -60,12 +60,12 @@ answers text B B′ a h =
     Calls.answers 13 (bufferFits B) bytesOf readingText (omega arith) text B B′ a (canonicalizing text B B′ a h) (BufferFits B) (fits-exactly B)
 
 pub written :
-    (text : Bytes) (B B′ : List ℕ) (a : Answer) → Canonicalizes text B B′ a → a .number ≡ 0 → (t : Tree) → TreeOf text t → BufferHolds B B′ (a .count) t
+    (text : Bytes) (B B′ : List ℕ) (a : Answer) → Canonicalizes text B B′ a → a .number ≡ 0 → (t : Tree) → ReadingOf text t → BufferHolds B B′ (a .count) t
 unfolding bytesOf over readingText
 written text B B′ a h z t i =
     let (r, e, f, c, w) =
     Calls.success-reads 13 (bufferFits B) bytesOf readingText (omega arith) text B B′ a (canonicalizing text B B′ a h) z in
-    let same : r .tree ≡ t = same-tree text (r .tree) t (reading-of text r e) i in
+    let same : r .tree ≡ t = same-reading text (r .tree) t (reading-of text r e) i in
     let s = canonicalBytes (r .tree) in
     subst (BufferHolds B B′ (a .count)) same
     (record {
@@ -79,20 +79,20 @@ pub right : (text : Bytes) (B B′ : List ℕ) (a : Answer) → Canonicalizes te
 right text B B′ a h = record { answers = answers text B B′ a h; held = written text B B′ a h }
 
 pub reads-back :
-    (text : Bytes) (B B′ : List ℕ) (a : Answer) → Canonicalizes text B B′ a → a .number ≡ 0 → (t : Tree) → TreeOf text t
+    (text : Bytes) (B B′ : List ℕ) (a : Answer) → Canonicalizes text B B′ a → a .number ≡ 0 → (t : Tree) → ReadingOf text t
     → (N N′ : List ℕ) (b : Answer) → Reads (take (a .count) B′) N N′ b → TableFits N (canonicalTree t)
     → (b .number ≡ 0) × TableHolds (take (a .count) B′) N N′ (b .count) (canonicalTree t)
 reads-back text B B′ a h z t i N N′ b g l =
     let (u, k, f) = answers text B B′ a h .success .0 z in
-    let same : u ≡ t = same-tree text u t k i in
+    let same : u ≡ t = same-reading text u t k i in
     let short : length (canonicalBytes t) ≤ longestText = rw same at (f .1) in
-    let back : TreeOf (take (a .count) B′) (canonicalTree t) = subst (λ s. TreeOf s (canonicalTree t)) (sym (written text B B′ a h z t i .text)) (canonical-read text t i short) in
+    let back : ReadingOf (take (a .count) B′) (canonicalTree t) = subst (λ s. ReadingOf s (canonicalTree t)) (sym (written text B B′ a h z t i .text)) (canonical-read text t i short) in
     let zero : b .number ≡ 0 = ReadCalls.answers (take (a .count) B′) N N′ b g .success .1 (canonicalTree t, back, l) in
     (zero, ReadCalls.tree-held (take (a .count) B′) N N′ b g zero (canonicalTree t) back)
 
 pub same-bytes :
     (text other : Bytes) (B B′ C C′ : List ℕ) (a b : Answer) → Canonicalizes text B B′ a → Canonicalizes other C C′ b
-    → a .number ≡ 0 → b .number ≡ 0 → (t u : Tree) → TreeOf text t → TreeOf other u → (take (a .count) B′ ≡ take (b .count) C′) ↔ Agree t u
+    → a .number ≡ 0 → b .number ≡ 0 → (t u : Tree) → ReadingOf text t → ReadingOf other u → (take (a .count) B′ ≡ take (b .count) C′) ↔ Agree t u
 same-bytes text other B B′ C C′ a b h k z y t u i j =
     let p = written text B B′ a h z t i .text in
     let q = written other C C′ b k y u j .text in

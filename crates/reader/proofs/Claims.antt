@@ -2,12 +2,14 @@
 -- after it; `Canonicalizes text B B′ a` is that of `canonicalize`, with the buffer `B`. Every call meets them, and there is nothing that a
 -- caller has to see to. That every call ends and nothing undefined happens is part of each function's proof.
 -- `Fault text n p`: row n of document 01's table, or 17 of document 02, §9, holds of the text at the place p, and none earlier in the order.
--- `Past text ts`: no row from 1 to 10 does, nor 17, and the text spells the tokens ts. `TreeOf text t`: t is a tree of the text, which is past
--- them. "Checks 1 to 10" are those with 17 among them.
+-- `Past text ts`: no row from 1 to 10 does, nor 17, and the text spells the tokens ts. "Checks 1 to 10" are those with 17 among them.
+-- `TreeOf text t`: t is a tree of the text, which is past them. `Blank text`: the text is empty or all blanks, past check 1. `ReadingOf text t`:
+-- the text reads as t, which is its tree, or `blankRule` of a blank text. Both services, demand 2 and the comparison speak of what is read.
 use mathlib.Core.Path.{_≡_}
 use mathlib.Core.Logic.{_↔_}
 use mathlib.Core.Bool.{true}
-use mathlib.Core.List.{List}
+use mathlib.Core.List.{List, [], _∷_}
+use mathlib.Core.Option.{some}
 use Prim.Native.Nat.{ℕ, _≤_}
 use lib.ListN.{length, take}
 use Rattle.grammar.specs.Bytes.{Bytes}
@@ -17,22 +19,26 @@ use Rattle.grammar.specs.Declaration.{declares, startTable, isReserved, value}
 use Rattle.grammar.specs.Spans.{Span, SpanOf}
 use Rattle.grammar.specs.SpanTree.{SpanTree, Admitted, root, rootPrecedence, yield}
 use Rattle.grammar.specs.Tree.{Tree, IsTree}
+use Rattle.grammar.specs.Blank.{Blank}
 use Rattle.grammar.specs.Widest.{widest}
 use Rattle.grammar.specs.Abstract.{Agree}
 use Rattle.grammar.specs.Canonical.{strip, stripDeclaration}
 use Rattle.grammar.specs.Fault.{longestText, Fault, Past, noneReserved, Unreserved}
-use Rattle.grammar.specs.Claim.{BlocksLawful, FirstWithout, TreeOf, canonicalTree, canonicalBytes, Faithful}
+use Rattle.grammar.specs.Claim.{BlocksLawful, FirstWithout, TreeOf, ReadingOf, canonicalTree, canonicalBytes, Faithful}
 use Rattle.grammar.proofs.Numbers as Numbers
 use Rattle.grammar.proofs.StripDeclarations as StripDeclarations
 use Rattle.grammar.proofs.WidestRoot.{root-widest}
 use Rattle.grammar.proofs.Faults as Faults
+use Rattle.grammar.proofs.BlankTexts as BlankTexts
 use Rattle.grammar.proofs.Rules as Rules
+use Rattle.grammar.proofs.BlankRules as BlankRules
 use Rattle.grammar.proofs.ReservedRoles as ReservedRoles
 use Rattle.reader.specs.declared.Answer.{Answer}
-use Rattle.reader.specs.Answered.{Reads, Canonicalizes}
+use Rattle.reader.specs.Answered.{nothingWritten, Reads, Canonicalizes}
 use Rattle.reader.specs.Demands.{RightAnswer, TableFits, BufferFits, TableHolds, BufferHolds, RightReading, RightCanonical}
 use Rattle.reader.proofs.ReadCalls as ReadCalls
 use Rattle.reader.proofs.CanonicalCalls as CanonicalCalls
+use Rattle.reader.proofs.BlankCalls as BlankCalls
 use Rattle.reader.proofs.Settled as Settled
 
 -- Demand 1. Whatever bytes come in: a reading, or one of the numbered refusals with its place, each exactly where documents 01 and 02 call for it;
@@ -48,34 +54,34 @@ pub one-fault : (text : Bytes) (n m p q : ℕ) → Fault text n p → Fault text
 one-fault = Faults.fault-unique
 
 -- Demand 2. A reading is a tree of the text's own tokens in their order, every operand admitted, under the declarations in force there:
--- `TreeOf`. The node table holds it.
+-- `TreeOf`. The node table holds it, and nothing of a blank text.
 pub tree-held :
-    (text : Bytes) (N N′ : List ℕ) (a : Answer) → Reads text N N′ a → a .number ≡ 0 → (t : Tree) → TreeOf text t → TableHolds text N N′ (a .count) t
+    (text : Bytes) (N N′ : List ℕ) (a : Answer) → Reads text N N′ a → a .number ≡ 0 → (t : Tree) → ReadingOf text t → TableHolds text N N′ (a .count) t
 tree-held = ReadCalls.tree-held
 
--- Every block of a tree of a text has allowed declarations, none of a reserved operator, and operators that meet the four conditions.
-pub blocks-lawful : (text : Bytes) (t : Tree) → TreeOf text t → BlocksLawful startTable t
-blocks-lawful = Rules.tree-lawful
+-- Every block of it has allowed declarations, none of a reserved operator, and operators that meet the four conditions.
+pub blocks-lawful : (text : Bytes) (t : Tree) → ReadingOf text t → BlocksLawful startTable t
+blocks-lawful = Rules.reading-lawful
 
--- The buffer holds the canonical text of the text's tree.
+-- The buffer holds the canonical text of what the text reads as.
 pub canonical-written :
-    (text : Bytes) (B B′ : List ℕ) (a : Answer) → Canonicalizes text B B′ a → a .number ≡ 0 → (t : Tree) → TreeOf text t → BufferHolds B B′ (a .count) t
+    (text : Bytes) (B B′ : List ℕ) (a : Answer) → Canonicalizes text B B′ a → a .number ≡ 0 → (t : Tree) → ReadingOf text t → BufferHolds B B′ (a .count) t
 canonical-written = CanonicalCalls.written
 
 -- It reads back to the canonical tree, with every table that is long enough for that tree, ..
 pub canonical-reads-back :
-    (text : Bytes) (B B′ : List ℕ) (a : Answer) → Canonicalizes text B B′ a → a .number ≡ 0 → (t : Tree) → TreeOf text t
+    (text : Bytes) (B B′ : List ℕ) (a : Answer) → Canonicalizes text B B′ a → a .number ≡ 0 → (t : Tree) → ReadingOf text t
     → (N N′ : List ℕ) (b : Answer) → Reads (take (a .count) B′) N N′ b → TableFits N (canonicalTree t)
     → (b .number ≡ 0) × TableHolds (take (a .count) B′) N N′ (b .count) (canonicalTree t)
 canonical-reads-back = CanonicalCalls.reads-back
 
 -- .. which agrees with the rule's tree and has no spare bracket.
-pub canonical-faithful : (text : Bytes) (t : Tree) → TreeOf text t → Faithful t
+pub canonical-faithful : (text : Bytes) (t : Tree) → ReadingOf text t → Faithful t
 canonical-faithful = Rules.canonical-faithful
 
-pub canonical-is-tree :
-    (text : Bytes) (t : Tree) → TreeOf text t → length (canonicalBytes t) ≤ longestText → TreeOf (canonicalBytes t) (canonicalTree t)
-canonical-is-tree = Rules.canonical-read
+pub canonical-is-read :
+    (text : Bytes) (t : Tree) → ReadingOf text t → length (canonicalBytes t) ≤ longestText → ReadingOf (canonicalBytes t) (canonicalTree t)
+canonical-is-read = Rules.canonical-read
 
 -- Demands 1 and 2 settle the answer and every word and byte: whatever else meets them is the same.
 pub read-settled :
@@ -86,19 +92,25 @@ pub canonicalize-settled :
     (text : Bytes) (B B′ B″ : List ℕ) (a b : Answer) → Canonicalizes text B B′ a → RightCanonical isReserved text B B″ b → (a ≡ b) × (B′ ≡ B″)
 canonicalize-settled = Settled.canonicalize-settled
 
--- Demand 3. Any two trees of one text are the same tree, whatever overloading the table check let through.
+-- Demand 3. Any two trees of one text are the same tree, whatever overloading the table check let through, ..
 pub one-tree : (text : Bytes) (t u : Tree) → TreeOf text t → TreeOf text u → t ≡ u
-one-tree = Rules.same-tree
+one-tree = BlankRules.same-tree
 
--- A text past checks 1 to 10 has a first span without a tree, and so is refused with 11, exactly where it has no tree.
-pub treeless : (text : Bytes) (ts : List Token) → Past text ts → ((t : Tree) → IsTree startTable ts t → ⊥) ↔ ((p : ℕ) × FirstWithout text ts p)
+-- .. and that is what a text with at least one token reads as.
+pub reading-is-tree : (text : Bytes) (x : Token) (ts : List Token) → Past text (x ∷ ts) → (t : Tree) → ReadingOf text t ↔ TreeOf text t
+reading-is-tree = BlankRules.reading-exactly
+
+-- A text past checks 1 to 10 with at least one token has a first span without a tree, and so is refused with 11, exactly where it has no tree.
+pub treeless :
+    (text : Bytes) (x : Token) (ts : List Token) → Past text (x ∷ ts)
+    → ((t : Tree) → IsTree startTable (x ∷ ts) t → ⊥) ↔ ((p : ℕ) × FirstWithout text (x ∷ ts) p)
 treeless = Rules.treeless-exactly
 
 -- Two rules' canonical texts, in buffers of whatever lengths, are the same bytes exactly where their trees, brackets removed, and their
 -- blocks' declarations agree.
 pub same-bytes :
     (text other : Bytes) (B B′ C C′ : List ℕ) (a b : Answer) → Canonicalizes text B B′ a → Canonicalizes other C C′ b
-    → a .number ≡ 0 → b .number ≡ 0 → (t u : Tree) → TreeOf text t → TreeOf other u → (take (a .count) B′ ≡ take (b .count) C′) ↔ Agree t u
+    → a .number ≡ 0 → b .number ≡ 0 → (t u : Tree) → ReadingOf text t → ReadingOf other u → (take (a .count) B′ ≡ take (b .count) C′) ↔ Agree t u
 same-bytes = CanonicalCalls.same-bytes
 
 -- Document 02, §3: "two numbers are copied alike exactly when their values are equal", ..
@@ -129,6 +141,35 @@ pub reserved-roles :
     (m : Bytes) → isReserved m ≡ true → (f : Fixity) (text : Bytes) (ts : List Token) → Past text ts → (s : Span) → SpanOf ts s
     → role (s .table) m f ≡ role startTable m f
 reserved-roles = ReservedRoles.reserved-roles
+
+-- Document 02, §7: "A text that is empty or all blanks, past check 1, is now read: no nodes, and an empty tidy text". With any table and any
+-- buffer, of length 0 too; no word and no byte changes.
+pub blank-read : (text : Bytes) → Blank text → (N N′ : List ℕ) (a : Answer) → Reads text N N′ a → (a ≡ nothingWritten) × (N′ ≡ N)
+blank-read = BlankCalls.blank-read
+
+pub blank-canonicalized :
+    (text : Bytes) → Blank text → (B B′ : List ℕ) (a : Answer) → Canonicalizes text B B′ a → (a ≡ nothingWritten) × (B′ ≡ B)
+blank-canonicalized = BlankCalls.blank-canonicalized
+
+-- "for the rest the reading is fixed here": a text past checks 1 to 10 without a token is a blank one.
+pub blank-past : (text : Bytes) → Blank text ↔ Past text []
+blank-past = BlankTexts.blank-past
+
+-- "blank rules agree with each other and with no other rule."
+pub blank-agreement :
+    (text other : Bytes) (t u : Tree) → ReadingOf text t → ReadingOf other u → Blank text → Agree t u ↔ Blank other
+blank-agreement = BlankRules.blank-agreement
+
+-- "An empty bracket pair or block body is refused with 11 as before", unless something else comes before 11.
+pub empty-inside-read :
+    (text : Bytes) (ts : List Token) → Past text ts → (s : Span) → SpanOf ts s → (i : ℕ) → s .opener ≡ some i → s .contents ≡ []
+    → (N N′ : List ℕ) (a : Answer) → Reads text N N′ a → a .number ≡ 11
+empty-inside-read = BlankCalls.empty-inside-read
+
+pub empty-inside-canonicalized :
+    (text : Bytes) (ts : List Token) → Past text ts → (s : Span) → SpanOf ts s → (i : ℕ) → s .opener ≡ some i → s .contents ≡ []
+    → (B B′ : List ℕ) (a : Answer) → Canonicalizes text B B′ a → a .number ≡ 11
+empty-inside-canonicalized = BlankCalls.empty-inside-canonicalized
 
 -- That the root has the widest precedence follows and is not asked besides.
 pub widest-root : (T : Table) → Conditions T → (s : SpanTree) → Admitted T s → rootPrecedence (root T s) ≡ widest T (yield s)

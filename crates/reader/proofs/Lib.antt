@@ -6,5 +6,6 @@ pub mod NodeCharacters
 pub mod Calls
 pub mod ReadCalls
 pub mod CanonicalCalls
+pub mod BlankCalls
 pub mod Settled
 pub mod Claims

@@ -5,15 +5,15 @@ use mathlib.Core.Option.{none, some}
 use Prim.Native.Nat.{ℕ}
 use lib.ListN.{length, drop, getD}
 use Rattle.grammar.specs.Bytes.{Bytes}
-use Rattle.grammar.specs.Declaration.{Declaration, startTable}
-use Rattle.grammar.specs.Tree.{IsTree}
+use Rattle.grammar.specs.Declaration.{Declaration}
 use Rattle.grammar.specs.Claim.{nodeNames, nodeBlocks, FromLetToIn}
 use Rattle.grammar.specs.Answer.{Reading, PastChecks, tokensOf, readingWords, over}
+use Rattle.grammar.proofs.ReadingTrees.{IsReading}
 use Rattle.grammar.proofs.NodeCharacters as G
 use Rattle.reader.specs.Answered.{nodeCharacters}
 
 module _
-    (text : Bytes) (r : Reading) (h : PastChecks text (r .tokens)) (is : IsTree startTable (tokensOf (r .tokens)) (r .tree)) (N N′ : List ℕ)
+    (text : Bytes) (r : Reading) (h : PastChecks text (r .tokens)) (is : IsReading (tokensOf (r .tokens)) (r .tree)) (N N′ : List ℕ)
     (w : N′ ≡ over (readingWords text r) N) where
   -- The characters of a name or number, or the operator; ..
   pub node-characters : (k : ℕ) (c : Bytes) → getD (nodeNames (r .tree)) k none ≡ some c → nodeCharacters text N′ k ≡ c

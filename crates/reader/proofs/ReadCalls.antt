@@ -1,4 +1,4 @@
--- Calls of `read`: five words to a node, 12 where they do not fit; what the node table then holds is the tree of the text.
+-- Calls of `read`: five words to a node, 12 where they do not fit; what the node table then holds is what the text reads as.
 use mathlib.Core.Path.{_≡_, refl, sym, ap, subst, _∙_}
 use mathlib.Core.Bool.{Bool}
 use mathlib.Core.List.{List, _++_}
@@ -13,16 +13,17 @@ use Rattle.grammar.specs.Outcome.{Outcome, refused, passed}
 use Rattle.grammar.specs.Declaration.{isReserved}
 use Rattle.grammar.specs.Tree.{Tree}
 use Rattle.grammar.specs.Nodes.{count, wordsPerNode}
-use Rattle.grammar.specs.Claim.{TreeOf}
+use Rattle.grammar.specs.Claim.{ReadingOf}
 use Rattle.grammar.specs.Answer as G
 use Rattle.grammar.specs.Answer.{Reading, offsetOf, readText, readInto, readingWords, over}
 use Rattle.grammar.specs.Spelling.{TokenAt}
 use Rattle.grammar.proofs.Scanned.{length-tokens}
 use Rattle.grammar.proofs.TokenFaults.{token-at}
 use Rattle.grammar.proofs.Operands.{words-length}
-use Rattle.grammar.proofs.Readings.{reading-tree, reading-operated}
+use Rattle.grammar.proofs.Readings.{reading-of-tokens}
+use Rattle.grammar.proofs.ReadingTrees.{reading-operated}
 use Rattle.grammar.proofs.Decoding.{decode-tree, nodes-ordered, subtree-together}
-use Rattle.grammar.proofs.Rules.{reading-of, same-tree}
+use Rattle.grammar.proofs.Rules.{reading-of, same-reading}
 use Rattle.reader.specs.declared.Answer.{Answer}
 use Rattle.reader.specs.Answered.{resultOf, Reads}
 use Rattle.reader.specs.Demands.{RightAnswer, TableFits, TableHolds, RightReading}
@@ -58,9 +59,9 @@ module _ (text : Bytes) (N N′ : List ℕ) (r : Reading) (e : readText text ≡
   reading-holds : TableHolds text N N′ (count (r .tree)) (r .tree)
   unfolding over readingWords
   reading-holds =
-      let (h, is) = reading-tree text r e in
+      let (h, is) = reading-of-tokens text r e in
       let v = drop (length (readingWords text r)) N in
-      let size = words-length (offsetOf text (r .tokens)) (r .tree) 0 0 (reading-operated text r e) in
+      let size = words-length (offsetOf text (r .tokens)) (r .tree) 0 0 (reading-operated is) in
       record {
         counted = refl;
         decodes = rw w (decode-tree text (r .tokens) h (r .tree) is v);
@@ -79,12 +80,12 @@ module _ (text : Bytes) (N N′ : List ℕ) (r : Reading) (e : readText text ≡
       }
 
 pub tree-held :
-    (text : Bytes) (N N′ : List ℕ) (a : Answer) → Reads text N N′ a → a .number ≡ 0 → (t : Tree) → TreeOf text t → TableHolds text N N′ (a .count) t
+    (text : Bytes) (N N′ : List ℕ) (a : Answer) → Reads text N N′ a → a .number ≡ 0 → (t : Tree) → ReadingOf text t → TableHolds text N N′ (a .count) t
 unfolding nodesOf
 tree-held text N N′ a h z t i =
     let (r, e, f, c, w) =
     Calls.success-reads 12 (tableFits N) nodesOf (readingWords text) (omega arith) text N N′ a (reading text N N′ a h) z in
-    let same : r .tree ≡ t = same-tree text (r .tree) t (reading-of text r e) i in
+    let same : r .tree ≡ t = same-reading text (r .tree) t (reading-of text r e) i in
     rw c (subst (λ u. TableHolds text N N′ (count (r .tree)) u) same (reading-holds text N N′ r e w))
 
 -- All that is asked of it.

@@ -1,6 +1,6 @@
--- What reading answers after checks 2 to 11 and 17: a refusal, 12, or the words of the tree.
+-- What reading answers after checks 2 to 11 and 17: a refusal, nothing of a blank text, 12, or the words of the tree.
 use mathlib.Core.Path.{_≡_, refl, sym, ap, ap₂, subst, _∙_}
-use mathlib.Core.List.{List}
+use mathlib.Core.List.{List, [], _∷_}
 use Prim.Native.Nat.{ℕ, suc, _+_, _*_, _≤_, _<_}
 use native.Mathlib.Omega.{arith}
 use lib.ListN.{length}
@@ -9,20 +9,24 @@ use Rattle.grammar.specs.Fault.{longestText}
 use Rattle.grammar.specs.Bytes.{Bytes}
 use Rattle.grammar.specs.Outcome.{Outcome, refused, passed}
 use Rattle.grammar.specs.Nodes.{count, words, wordsPerNode}
+use Rattle.grammar.specs.Scan.{Placed}
 use Rattle.grammar.specs.Tree.{flat}
+use Rattle.grammar.specs.Blank.{blankRule}
 use Rattle.grammar.specs.Answer as G
 use Rattle.grammar.specs.Answer.{Reading, tokensOf, offsetOf, readText, readInto, readingWords, rejection, success}
 use Rattle.grammar.proofs.Logic.{impossible}
 use Rattle.grammar.proofs.Scanned.{length-tokens}
+use Rattle.grammar.proofs.ReadingTrees.{is-blank}
+use Rattle.grammar.proofs.Readings.{reading-of-tokens}
 use Rattle.grammar.proofs.RoundTrip.{few-nodes}
 use Rattle.rows.proofs.Stored.{stored-ascend}
 use Rattle.rows.proofs.TreeTokens.{ready-tokened}
 use Rattle.nodes.specs.Building.{Stands, Buildable, Built}
-use Rattle.checks.specs.Checking.{Outcomes, Checking}
+use Rattle.checks.specs.Checking.{Passes, Outcomes, Checking}
 use Rattle.checks.specs.declared.Checked.{Checked}
-use Rattle.checks.specs.declared.Checked.the-variants.{Passed, Refused}
+use Rattle.checks.specs.declared.Checked.the-variants.{Blank, Passed, Refused}
 use Rattle.reader.specs.Found.{Found}
-use Rattle.reader.specs.Answered.{answerOf, resultOf, refusedWith, Reads}
+use Rattle.reader.specs.Answered.{answerOf, resultOf, refusedWith, nothingWritten, Reads}
 
 -- Check 1.
 pub reads-long : (text : Bytes) (N : List ℕ) → longestText < length text → Reads text N N (refusedWith 1 longestText)
@@ -35,10 +39,14 @@ module _ (text : Bytes) (K R O : List ℕ) (c : Checked) (h : Checking text K R 
     where
       go : (o : Outcome Reading) → readText text ≡ o → Outcomes text K R O c o → Found text K R O n k at
       go (refused m p) f g = let z = sym g ∙ e in impossible cc
-      go (passed r) f g =
-          let z : Passed (length (r .tokens)) (count (r .tree)) (g .0 .0) ≡ Passed n k at = sym (g .0 .1) ∙ e in
-          let y : g .0 .0 ≡ at = cc in
-          record { reading = r; reads = f; tokens = cc; nodes = cc; root = ap suc (sym y) ∙ g .0 .2; ready = g .1 }
+      go (passed r) f g = there r f (r .tokens) g
+        where
+          there : (s : Reading) → readText text ≡ passed s → (qs : List Placed) → Passes text K R O c s qs → Found text K R O n k at
+          there s f [] g = let z = sym g ∙ e in impossible cc
+          there s f (q ∷ qs) g =
+              let z : Passed (length (s .tokens)) (count (s .tree)) (g .0 .0) ≡ Passed n k at = sym (g .0 .1) ∙ e in
+              let y : g .0 .0 ≡ at = cc in
+              record { reading = s; reads = f; tokens = cc; nodes = cc; root = ap suc (sym y) ∙ g .0 .2; ready = g .1 }
 
   -- A refusal.
   pub refused-reads : (m p : ℕ) → c ≡ Refused m p → readText text ≡ refused m p
@@ -46,7 +54,31 @@ module _ (text : Bytes) (K R O : List ℕ) (c : Checked) (h : Checking text K R 
     where
       go : (o : Outcome Reading) → readText text ≡ o → Outcomes text K R O c o → readText text ≡ refused m p
       go (refused x q) f g = let z : Refused x q ≡ Refused m p = sym g ∙ e in f ∙ cc
-      go (passed r) f g = let z = sym (g .0 .1) ∙ e in impossible cc
+      go (passed r) f g = there r (r .tokens) g
+        where
+          there : (s : Reading) (qs : List Placed) → Passes text K R O c s qs → readText text ≡ refused m p
+          there s [] g = let z = sym g ∙ e in impossible cc
+          there s (q ∷ qs) g = let z = sym (g .0 .1) ∙ e in impossible cc
+
+  -- A blank text.
+  pub blank-reads : c ≡ Blank → readText text ≡ passed (record { tokens = []; tree = blankRule })
+  unfolding tokensOf
+  blank-reads e = go (readText text) refl h
+    where
+      go : (o : Outcome Reading) → readText text ≡ o → Outcomes text K R O c o → readText text ≡ passed (record { tokens = []; tree = blankRule })
+      go (refused m p) f g = let z = sym g ∙ e in impossible cc
+      go (passed r) f g = there (r .tokens) refl g
+        where
+          there : (qs : List Placed) → r .tokens ≡ qs → Passes text K R O c r qs → readText text ≡ passed (record { tokens = []; tree = blankRule })
+          there [] q g =
+              let none : tokensOf (r .tokens) ≡ [] = ap tokensOf q in
+              let blank : r .tree ≡ blankRule = is-blank (rw none at (reading-of-tokens text r f .1)) in
+              f ∙ ap₂ (λ ps t. passed (record { tokens = ps; tree = t })) q blank
+          there (p ∷ ps) q g = let z = sym (g .0 .1) ∙ e in impossible cc
+
+  pub reads-blank : (N : List ℕ) → c ≡ Blank → Reads text N N nothingWritten
+  unfolding G.read readInto success answerOf resultOf readingWords words count G.over
+  reads-blank N e = rw (blank-reads e) (rw (le-leb (wordsPerNode * count blankRule) (length N) (omega arith), readInto))
 
   pub reads-refused : (N : List ℕ) (m p : ℕ) → c ≡ Refused m p → Reads text N N (refusedWith m p)
   unfolding G.read readInto rejection answerOf resultOf

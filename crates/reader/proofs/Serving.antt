@@ -1,4 +1,4 @@
--- Both services answer alike before they write: check 1 and the refusals of the other checks.
+-- Both services answer alike before they write: check 1, the refusals of the other checks, and a blank text.
 use mathlib.Core.Path.{_≡_, refl}
 use mathlib.Core.Bool.{Bool, true, false}
 use mathlib.Core.List.{List}
@@ -9,11 +9,11 @@ use Rattle.grammar.specs.Bytes.{Bytes}
 use Rattle.grammar.proofs.Logic.{impossible}
 use Rattle.checks.specs.Checking.{Checking}
 use Rattle.checks.specs.declared.Checked.{Checked}
-use Rattle.checks.specs.declared.Checked.the-variants.{Refused}
+use Rattle.checks.specs.declared.Checked.the-variants.{Blank, Refused}
 use Rattle.reader.specs.declared.Answer.{Answer}
-use Rattle.reader.specs.Answered.{refusedWith, Reads, Canonicalizes, Serves}
-use Rattle.reader.proofs.Reading.{reads-long, reads-refused}
-use Rattle.reader.proofs.Writing.{canonical-too-long, canonical-refused}
+use Rattle.reader.specs.Answered.{refusedWith, nothingWritten, Reads, Canonicalizes, Serves}
+use Rattle.reader.proofs.Reading.{reads-long, reads-refused, reads-blank}
+use Rattle.reader.proofs.Writing.{canonical-too-long, canonical-refused, canonical-blank}
 
 module _ (canonical : Bool) (text : Bytes) where
   pub serves-text :
@@ -33,4 +33,12 @@ module _ (canonical : Bool) (text : Bytes) where
       record {
         reading = λ f. (reads-refused text K R O c h N m p e, refl);
         writing = λ f. (canonical-refused text K R O c h B m p e, refl);
+      }
+
+  pub serves-blank :
+      (K R O : List ℕ) {N B : List ℕ} (c : Checked) → Checking text K R O c → c ≡ Blank → Serves canonical text N N B B nothingWritten
+  serves-blank K R O {N} {B} c h e =
+      record {
+        reading = λ f. (reads-blank text K R O c h N e, refl);
+        writing = λ f. (canonical-blank text K R O c h B e, refl);
       }

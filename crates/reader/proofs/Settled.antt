@@ -16,7 +16,7 @@ use Rattle.grammar.specs.Declaration.{isReserved}
 use Rattle.grammar.specs.Fault.{BeforeEleven, noneReserved, Unreserved}
 use Rattle.grammar.proofs.TokenFaults.{goes-on-unique}
 use Rattle.grammar.proofs.WordsOffsets.{words-offsets}
-use Rattle.grammar.proofs.ReservedNames.{Alike, same-fault, same-past, same-trees}
+use Rattle.grammar.proofs.ReservedNames.{Alike, same-fault, same-past, same-readings}
 use Rattle.reader.specs.declared.Answer.{Answer}
 use Rattle.reader.specs.Demands.{RightAnswerReserving, TableHolds, BufferHolds, Right, RightReading, RightCanonical}
 use Rattle.reader.specs.Answered.{Reads, Canonicalizes}
@@ -111,16 +111,16 @@ module _ (R S : Bytes → Bool) (text : Bytes) (alike : Alike R S text) where
         faults = λ n p. (λ z. same-fault R S text alike (h .faults n p .0 z), λ f. h .faults n p .1 (same-fault S R text back f));
         eleven =
             λ p. (
-              λ z. let (ts, past, first) = h .eleven p .0 z in (ts, same-past R S text alike past, first),
-              λ (ts, past, first). h .eleven p .1 (ts, same-past S R text back past, first),
+              λ z. let (x, ts, past, first) = h .eleven p .0 z in (x, ts, same-past R S text alike past, first),
+              λ (x, ts, past, first). h .eleven p .1 (x, ts, same-past S R text back past, first),
             );
         success = (
-          λ z. let (t, tree, fits) = h .success .0 z in (t, same-trees R S text alike tree, fits),
-          λ (t, tree, fits). h .success .1 (t, same-trees S R text back tree, fits),
+          λ z. let (t, tree, fits) = h .success .0 z in (t, same-readings R S text alike tree, fits),
+          λ (t, tree, fits). h .success .1 (t, same-readings S R text back tree, fits),
         );
         tooShort = (
-          λ z. let (t, tree, fails) = h .tooShort .0 z in (t, same-trees R S text alike tree, fails),
-          λ (t, tree, fails). h .tooShort .1 (t, same-trees S R text back tree, fails),
+          λ z. let (t, tree, fails) = h .tooShort .0 z in (t, same-readings R S text alike tree, fails),
+          λ (t, tree, fails). h .tooShort .1 (t, same-readings S R text back tree, fails),
         );
         placeZero = h .placeZero;
         unchanged = h .unchanged;
@@ -129,7 +129,7 @@ module _ (R S : Bytes → Bool) (text : Bytes) (alike : Alike R S text) where
   right-alike :
       {own : ℕ} {Fits : Tree → Type 0} {Holds : List ℕ → ℕ → Tree → Type 0} {B B′ : List ℕ} {a : Answer}
       → Right R own Fits Holds text B B′ a → Right S own Fits Holds text B B′ a
-  right-alike h = record { answers = answers-alike (h .answers); held = λ z t tree. h .held z t (same-trees S R text back tree) }
+  right-alike h = record { answers = answers-alike (h .answers); held = λ z t tree. h .held z t (same-readings S R text back tree) }
 
 -- Of the two services, first where the three operators of document 02, §9, are reserved, then where none is.
 pub read-settled :

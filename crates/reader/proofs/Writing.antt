@@ -1,4 +1,4 @@
--- What canonicalizing answers after checks 2 to 11 and 17: a refusal, 13, or the canonical text.
+-- What canonicalizing answers after checks 2 to 11 and 17: a refusal, nothing of a blank text, 13, or the canonical text.
 use mathlib.Core.Path.{_≡_, refl, sym, ap, ap₂, _∙_}
 use mathlib.Core.Bool.{true, false, _&&_}
 use mathlib.Core.List.{List}
@@ -9,15 +9,17 @@ use lib.ListN.{length}
 use borrow.Author.Tests.{le-leb, lt-leb}
 use Rattle.grammar.specs.Fault.{longestText}
 use Rattle.grammar.specs.Bytes.{Bytes}
+use Rattle.grammar.specs.Tree.{flat}
+use Rattle.grammar.specs.Canonical.{canonical, canonicalText, joinTokens}
 use Rattle.grammar.specs.Answer as G
 use Rattle.grammar.specs.Answer.{Reading, readText, readingText, canonicalizeInto, writeInto, rejection, success}
 use Rattle.canonical_text.specs.Pieces.{Prepared, joinPieces, pieces}
 use Rattle.checks.specs.Checking.{Checking}
 use Rattle.checks.specs.declared.Checked.{Checked}
-use Rattle.checks.specs.declared.Checked.the-variants.{Refused}
-use Rattle.reader.specs.Answered.{answerOf, resultOf, refusedWith, Canonicalizes}
+use Rattle.checks.specs.declared.Checked.the-variants.{Blank, Refused}
+use Rattle.reader.specs.Answered.{answerOf, resultOf, refusedWith, nothingWritten, Canonicalizes}
 use Rattle.reader.specs.Found.{Found}
-use Rattle.reader.proofs.Reading.{refused-reads}
+use Rattle.reader.proofs.Reading.{refused-reads, blank-reads}
 
 -- Check 1.
 pub canonical-too-long : (text : Bytes) (B : List ℕ) → longestText < length text → Canonicalizes text B B (refusedWith 1 longestText)
@@ -30,6 +32,12 @@ pub canonical-refused :
     → Canonicalizes text B B (refusedWith m p)
 unfolding G.canonicalize canonicalizeInto rejection answerOf resultOf
 canonical-refused text K R O c h B m p e = rw (refused-reads text K R O c h m p e)
+
+-- A blank text.
+pub canonical-blank : (text : Bytes) (K R O : List ℕ) (c : Checked) → Checking text K R O c → (B : List ℕ) → c ≡ Blank → Canonicalizes text B B nothingWritten
+unfolding G.canonicalize canonicalizeInto writeInto success answerOf resultOf readingText canonical canonicalText flat joinTokens G.over
+canonical-blank text K R O c h B e =
+    rw (blank-reads text K R O c h e) (rw (le-leb 0 (length B) (omega arith), writeInto))
 
 -- The parts that are written are as long as was counted.
 pub parts-length : {text : Bytes} {K : List ℕ} {n : ℕ} {r : Reading} {total : ℕ} → Prepared text K n r total → length (joinPieces (pieces text K 0 n)) ≡ total

@@ -2,9 +2,9 @@
 use mathlib.Core.Path.{_≡_}
 use mathlib.Core.Logic.{_↔_, _⊎_}
 use mathlib.Core.Bool.{Bool}
-use mathlib.Core.List.{List}
+use mathlib.Core.List.{List, _∷_}
 use mathlib.Core.Option.{none, some}
-use Prim.Native.Nat.{ℕ, pred, _*_, _≤_, _<_}
+use Prim.Native.Nat.{ℕ, _*_, _≤_, _<_}
 use lib.ListN.{length, take, drop, getD}
 use Rattle.grammar.specs.Bytes.{Bytes}
 use Rattle.grammar.specs.Token.{Token}
@@ -13,8 +13,8 @@ use Rattle.grammar.specs.Spelling.{TokenAt}
 use Rattle.grammar.specs.Tree.{Tree, flat}
 use Rattle.grammar.specs.Nodes.{count, words, wordsPerNode}
 use Rattle.grammar.specs.Fault.{longestText, BeforeEleven, FaultReserving, PastReserving}
-use Rattle.grammar.specs.Decoding.{decode, Ordered, Together}
-use Rattle.grammar.specs.Claim.{nodeNames, nodeBlocks, FromLetToIn, FirstWithout, TreeReserving, canonicalBytes}
+use Rattle.grammar.specs.Decoding.{decodeTable, Ordered, Together}
+use Rattle.grammar.specs.Claim.{nodeNames, nodeBlocks, FromLetToIn, FirstWithout, ReadingReserving, canonicalBytes}
 use Rattle.reader.specs.declared.Answer.{Answer}
 use Rattle.reader.specs.Answered.{nodeCharacters}
 
@@ -28,11 +28,14 @@ pub record RightAnswerReserving
   -- Rows 1 to 10 and 17, and only these, where documents 01 and 02 call for them.
   pub faults : (n p : ℕ) → ((a .number ≡ n) × (a .offset ≡ p) × BeforeEleven n) ↔ FaultReserving reserved text n p
   -- "11: span without a tree: 0, the `(`, or the `in`"
+  -- Of texts with at least one token (02, §7).
   pub eleven :
-      (p : ℕ) → ((a .number ≡ 11) × (a .offset ≡ p)) ↔ ((ts : List Token) × PastReserving reserved text ts × FirstWithout text ts p)
-  -- Number 0 exactly where there is a tree and it fits, the own number exactly where there is one and it does not; both have place 0.
-  pub success : (a .number ≡ 0) ↔ ((t : Tree) × TreeReserving reserved text t × Fits t)
-  pub tooShort : (a .number ≡ own) ↔ ((t : Tree) × TreeReserving reserved text t × (Fits t → ⊥))
+      (p : ℕ)
+      → ((a .number ≡ 11) × (a .offset ≡ p))
+      ↔ ((x : Token) × (ts : List Token) × PastReserving reserved text (x ∷ ts) × FirstWithout text (x ∷ ts) p)
+  -- Number 0 exactly where the text reads as something and it fits, the own number exactly where it does not fit; both have place 0.
+  pub success : (a .number ≡ 0) ↔ ((t : Tree) × ReadingReserving reserved text t × Fits t)
+  pub tooShort : (a .number ≡ own) ↔ ((t : Tree) × ReadingReserving reserved text t × (Fits t → ⊥))
   pub placeZero : (a .number ≡ 0) ⊎ (a .number ≡ own) → a .offset ≡ 0
   -- "Refused: count 0, buffers unchanged."
   pub unchanged : (a .number ≡ 0 → ⊥) → (B′ ≡ B) × (a .count ≡ 0)
@@ -52,7 +55,7 @@ BufferFits B t = (length (canonicalBytes t) ≤ length B) × (length (canonicalB
 pub record TableHolds (text : Bytes) (N N′ : List ℕ) (c : ℕ) (t : Tree) : Type 0 where
   pub counted : c ≡ count t
   -- The text and the words give the tree back: "the root last".
-  pub decodes : decode text N′ (pred c) ≡ some t
+  pub decodes : decodeTable text N′ c ≡ some t
   -- "Children come before parents, left before right .. so the words of a subtree stand together in the node table."
   pub ordered : (k : ℕ) → k < c → Ordered N′ k
   pub together : (k : ℕ) → k < c → Together text N′ k
@@ -73,12 +76,12 @@ pub record BufferHolds (B B′ : List ℕ) (c : ℕ) (t : Tree) : Type 0 where
   -- "Bytes of the buffer past the tidy text keep their contents."
   pub behind : drop c B′ ≡ drop c B
 
--- All that is asked of a call: the answer, and that the buffer holds the tree of a text that is read.
+-- All that is asked of a call: the answer, and that the buffer holds what a text is read as.
 pub record Right
     (reserved : Bytes → Bool) (own : ℕ) (Fits : Tree → Type 0) (Holds : List ℕ → ℕ → Tree → Type 0) (text : Bytes) (B B′ : List ℕ) (a : Answer)
     : Type 0 where
   pub answers : RightAnswerReserving reserved own Fits text B B′ a
-  pub held : a .number ≡ 0 → (t : Tree) → TreeReserving reserved text t → Holds B′ (a .count) t
+  pub held : a .number ≡ 0 → (t : Tree) → ReadingReserving reserved text t → Holds B′ (a .count) t
 
 -- Of a call of `read`, and of one of `canonicalize`.
 abbrev pub RightReading : (Bytes → Bool) → Bytes → List ℕ → List ℕ → Answer → Type 0

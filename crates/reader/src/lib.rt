@@ -7,7 +7,7 @@ ghost use mathlib.Core.Path.{_≡_};
 ghost use Rattle.checks.specs.Checking.{Checkable};
 ghost use mathlib.Core.List.{List};
 ghost use Prim.Native.Nat.{ℕ};
-ghost use Rattle.reader.specs.Answered.{refusedWith, Reads, Canonicalizes, Serves, nodeCharacters};
+ghost use Rattle.reader.specs.Answered.{refusedWith, nothingWritten, Reads, Canonicalizes, Serves, nodeCharacters};
 ghost use Rattle.reader.specs.Found.{Found};
 
 pub const MAX_BYTES: usize = 16384;
@@ -39,6 +39,17 @@ fn refused(number: u8, offset: usize) -> Answer
     Answer {
         number,
         offset,
+        count: 0,
+    }
+}
+
+// The answer of a blank rule: read, and nothing written.
+fn blank() -> Answer
+    ensures { λ r. ⌜ r ≡ nothingWritten ⌝ }
+{
+    Answer {
+        number: 0,
+        offset: 0,
         count: 0,
     }
 }
@@ -109,6 +120,7 @@ fn serve_in(
 {
     match checks::check(text, tokens, roles, roots) {
         Checked::Refused { number, offset } => refused(number, offset),
+        Checked::Blank => blank(),
         Checked::Passed {
             tokens: count,
             nodes: k,

@@ -1,19 +1,24 @@
--- A refusal of the checks is that of the service; else the rows hold what either service writes from.
+-- A refusal of the checks is that of the service, and so is nothing of a blank text; else the rows hold what either service writes from.
 use Rattle.reader.proofs.Reading.{found}
-use Rattle.reader.proofs.Serving.{serves-text, serves-nodes, serves-refused}
+use Rattle.reader.proofs.Serving.{serves-text, serves-nodes, serves-refused, serves-blank}
 use borrow.Author.Needs.{needs}
 use Rattle.reader.proofs.serve_in.Statement.{statement}
 use Rattle.reader.proofs.serve_in.Tie as tie
 
 check-requires : tie.Need-check-requires
-check-requires c κs =
-    c .before .before .before .before .before .before .before .before .before .pre
+check-requires c κs = search needs
 
 enum-known-number : tie.Need-enum-known-number
 enum-known-number c = search needs
 
 refused-requires : tie.Need-refused-requires
 refused-requires c κs = search needs
+
+enum-told : tie.Need-enum-told
+enum-told c = search needs
+
+blank-requires : tie.Need-blank-requires
+blank-requires c κs = search needs
 
 enum-known-count : tie.Need-enum-known-count
 enum-known-count c = search needs
@@ -73,11 +78,25 @@ same-length-9 c = search needs
 same-length-10 : tie.Need-same-length-10
 same-length-10 c = search needs
 
+returns-3 : tie.Need-returns-3
+returns-3 c =
+    let a = c .before .before .before .before .before .before .before .before .before in
+    rw (c .blank .ensures) (serves-blank _ _ _ _ _ _ (a .check .ensures) (c .before .enum-told .given .1))
+
 same-length-11 : tie.Need-same-length-11
 same-length-11 c = search needs
 
-returns-3 : tie.Need-returns-3
-returns-3 c =
+same-length-12 : tie.Need-same-length-12
+same-length-12 c = search needs
+
+same-length-13 : tie.Need-same-length-13
+same-length-13 c = search needs
+
+same-length-14 : tie.Need-same-length-14
+same-length-14 c = search needs
+
+returns-4 : tie.Need-returns-4
+returns-4 c =
     let a = c .before .before .before .before .before .before in
     let b = a .before .before in
     let d = b in
@@ -91,6 +110,8 @@ serve-in-spec =
     check-requires
     enum-known-number
     refused-requires
+    enum-told
+    blank-requires
     enum-known-count
     write-text-requires
     same-length
@@ -106,5 +127,9 @@ serve-in-spec =
     same-length-8
     same-length-9
     same-length-10
+    returns-3
     same-length-11
-    returns-3)
+    same-length-12
+    same-length-13
+    same-length-14
+    returns-4)

@@ -1,0 +1,66 @@
+-- Document 02, §7, of the calls: both services read a blank text and write nothing, and refuse a text with an empty inside with 11.
+use mathlib.Core.Path.{_≡_, subst, _∙_}
+use mathlib.Core.Logic.{inl}
+use mathlib.Core.List.{List, []}
+use mathlib.Core.Option.{some}
+use Prim.Native.Nat.{ℕ, _*_}
+use native.Mathlib.Omega.{arith}
+use lib.ListN.{drop}
+use Rattle.grammar.specs.Bytes.{Bytes}
+use Rattle.grammar.specs.Token.{Token}
+use Rattle.grammar.specs.Declaration.{isReserved}
+use Rattle.grammar.specs.Spans.{Span, SpanOf}
+use Rattle.grammar.specs.Tree.{Tree, flat}
+use Rattle.grammar.specs.Nodes.{count, wordsPerNode}
+use Rattle.grammar.specs.Canonical.{canonical, canonicalText, joinTokens}
+use Rattle.grammar.specs.Blank.{Blank, blankRule}
+use Rattle.grammar.specs.Fault.{Past}
+use Rattle.grammar.specs.Claim.{ofBlank}
+use Rattle.grammar.proofs.BlankRules.{empty-inside}
+use Rattle.reader.specs.declared.Answer.{Answer}
+use Rattle.reader.specs.Answered.{nothingWritten, Reads, Canonicalizes}
+use Rattle.reader.specs.Demands.{Right}
+use Rattle.reader.proofs.ReadCalls as ReadCalls
+use Rattle.reader.proofs.CanonicalCalls as CanonicalCalls
+
+-- Of either service: a blank rule fits, and what holds of the buffer then says that nothing was written.
+module _
+    {own : ℕ} {Fits : Tree → Type 0} {Holds : List ℕ → ℕ → Tree → Type 0} {text : Bytes} {B B′ : List ℕ} {a : Answer}
+    (right : Right isReserved own Fits Holds text B B′ a) where
+  blank-call :
+      Blank text → Fits blankRule → ((c : ℕ) → Holds B′ c blankRule → (c ≡ 0) × (B′ ≡ B)) → (a ≡ nothingWritten) × (B′ ≡ B)
+  blank-call b fits empty =
+      let read = right .answers .success .1 (blankRule, ofBlank b, fits) in
+      let place = right .answers .placeZero (inl read) in
+      let (none, same) = empty (a .count) (right .held read blankRule (ofBlank b)) in
+      ((λ i. record { number = read i; offset = place i; count = none i }), same)
+
+  empty-call :
+      (ts : List Token) → Past text ts → (s : Span) → SpanOf ts s → (i : ℕ) → s .opener ≡ some i → s .contents ≡ [] → a .number ≡ 11
+  empty-call ts past s among i opened none =
+      let (x, us, p, own, first) = empty-inside text ts past s among i opened none in
+      right .answers .eleven p .1 (x, us, own, first) .0
+
+pub blank-read : (text : Bytes) → Blank text → (N N′ : List ℕ) (a : Answer) → Reads text N N′ a → (a ≡ nothingWritten) × (N′ ≡ N)
+unfolding count
+blank-read text b N N′ a h =
+    blank-call (ReadCalls.right text N N′ a h) b (omega arith)
+    (λ c held. (held .counted, subst (λ k. drop (wordsPerNode * k) N′ ≡ drop (wordsPerNode * k) N) (held .counted) (held .behind)))
+
+pub blank-canonicalized :
+    (text : Bytes) → Blank text → (B B′ : List ℕ) (a : Answer) → Canonicalizes text B B′ a → (a ≡ nothingWritten) × (B′ ≡ B)
+unfolding canonical canonicalText flat joinTokens
+blank-canonicalized text b B B′ a h =
+    blank-call (CanonicalCalls.right text B B′ a h) b (omega arith, omega arith)
+    (λ c held. (held .counted, subst (λ k. drop k B′ ≡ drop k B) (held .counted) (held .behind)))
+
+pub empty-inside-read :
+    (text : Bytes) (ts : List Token) → Past text ts → (s : Span) → SpanOf ts s → (i : ℕ) → s .opener ≡ some i → s .contents ≡ []
+    → (N N′ : List ℕ) (a : Answer) → Reads text N N′ a → a .number ≡ 11
+empty-inside-read text ts past s among i opened none N N′ a h = empty-call (ReadCalls.right text N N′ a h) ts past s among i opened none
+
+pub empty-inside-canonicalized :
+    (text : Bytes) (ts : List Token) → Past text ts → (s : Span) → SpanOf ts s → (i : ℕ) → s .opener ≡ some i → s .contents ≡ []
+    → (B B′ : List ℕ) (a : Answer) → Canonicalizes text B B′ a → a .number ≡ 11
+empty-inside-canonicalized text ts past s among i opened none B B′ a h =
+    empty-call (CanonicalCalls.right text B B′ a h) ts past s among i opened none
