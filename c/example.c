@@ -4,8 +4,8 @@
 #include <stdio.h>
 #include <string.h>
 
-#if RULE_READER_VERSION_MAJOR != 2
-#error "written for version 2 of rule_reader.h"
+#if RULE_READER_VERSION_MAJOR != 3
+#error "written for version 3 of rule_reader.h"
 #endif
 
 /* By number; 14 to 16 are not given. */
@@ -49,6 +49,8 @@ int main(int argc, char **argv)
     print_answer("rule_read", answer);
     if (answer.number != RULE_READ)
         return 1;
+    if (answer.count == 0)
+        puts("a blank rule: nobody");
     for (size_t i = 0; i < answer.count; i++) {
         const uint32_t *node = nodes + RULE_NODE_WORDS * i;
         uint32_t kind = node[RULE_NODE_KIND];

@@ -7,9 +7,13 @@
  * Link with target/staticlib/librule_reader.a (x86-64 Linux), which `rt staticlib rule_reader` writes. It needs memcpy and memset
  * and nothing else. c/rule_reader.pc is for pkg-config.
  *
+ * A blank rule is a text that is empty or all blanks (bytes 9, 10, 13 and 32), of at most 16,384 bytes. It means nobody. Both
+ * services answer with RULE_READ and count 0 and write nothing, whatever the length of the table or buffer: there is no root. No
+ * other text has RULE_READ with count 0.
+ *
  * Arguments. Each of the two lent parts is a pointer and a length. The text is any bytes; it is not changed, and it needs no zero
- * byte at its end. Lengths may be 0, of the text (refused with RULE_NO_TREE) and of the table or buffer. What is required of a
- * call, and checked by nobody:
+ * byte at its end. Lengths may be 0, of the text (a blank rule) and of the table or buffer. What is required of a call, and checked
+ * by nobody:
  *   - each pointer is valid for its length, `nodes` also aligned for uint32_t;
  *   - the table or buffer does not overlap the text;
  *   - no pointer is null. This holds for length 0 too: the kit does not say that null can stand for an empty slice. Pass any
@@ -37,7 +41,7 @@
  *   - MINOR: something is added to this header, and all that was there stays;
  *   - PATCH: neither this header's declarations nor any result has changed.
  */
-#define RULE_READER_VERSION_MAJOR 2
+#define RULE_READER_VERSION_MAJOR 3
 #define RULE_READER_VERSION_MINOR 0
 #define RULE_READER_VERSION_PATCH 0
 
@@ -58,7 +62,7 @@ enum {
  * given. 17 comes between 8 and 9: for each declaration 8, then 17, then 9.
  */
 enum rule_number {
-    RULE_READ = 0,                   /* read, or canonical text written */
+    RULE_READ = 0,                   /* read, or canonical text written; also of a blank rule */
     RULE_TEXT_TOO_LONG = 1,          /* the text has more than 16,384 bytes; place 16384 */
     RULE_BAD_BYTE = 2,               /* a byte begins no token; the byte */
     RULE_BAD_QUOTED_NAME = 3,        /* a quoted name is malformed or not closed; its opening quote */
@@ -69,15 +73,16 @@ enum rule_number {
     RULE_BAD_DECLARATION = 8,        /* a declaration is malformed, or its precedence is not 1 to 1200; the first unfit token */
     RULE_TOO_MANY_OPERATORS = 9,     /* a 65th operator is in force; the operator */
     RULE_BAD_OVERLOADING = 10,       /* the roles of an operator do not go together; the `in` */
-    RULE_NO_TREE = 11,               /* a span has no tree; 0 for the whole text, the `(`, or the `in` */
+    RULE_NO_TREE = 11,               /* a span has no tree; 0 for the whole text, the `(`, or the `in`. A blank rule is read */
     RULE_TABLE_TOO_SHORT = 12,       /* rule_read: the node table is too short; 0 */
     RULE_CANONICAL_TOO_LONG = 13,    /* rule_canonicalize: the canonical text is over the buffer or 16,384 bytes; 0 */
     RULE_RESERVED_OPERATOR = 17      /* a complete declaration is of `and`, `or` or `not`; the operator */
 };
 
 /*
- * The answer of both services. Number RULE_READ: offset 0, and count is how many nodes or bytes were written. Any other number is
- * a refusal: offset is its place, count is 0, and no word or byte of the table or buffer has changed.
+ * The answer of both services. Number RULE_READ: offset 0, and count is how many nodes or bytes were written, 0 exactly if the text
+ * is a blank rule. Any other number is a refusal: offset is its place, count is 0, and no word or byte of the table or buffer has
+ * changed.
  */
 struct rule_answer {
     uint8_t number;
@@ -107,7 +112,8 @@ enum rule_kind {
 
 /*
  * Reads a text into a node table. `nodes_length` counts words. Node number i has the words 5 * i to 5 * i + 4. Children come
- * before their parents, left before right; the root is node count - 1. Words behind the nodes keep their contents.
+ * before their parents, left before right; the root is node count - 1. A blank rule has no nodes and no root: look at count
+ * before count - 1. Words behind the nodes keep their contents.
  * Gives RULE_READ and the refusals 1 to 12 and 17. RULE_TABLE_WORDS words are always enough: then never 12.
  */
 struct rule_answer rule_read(const uint8_t *text, size_t text_length, uint32_t *nodes, size_t nodes_length);
@@ -115,7 +121,7 @@ struct rule_answer rule_read(const uint8_t *text, size_t text_length, uint32_t *
 /*
  * Writes the canonical text of a text into a buffer: no bracket that means nothing, no leading zeros, no quotes that a name does
  * not need, one space between tokens. `buffer_length` counts bytes. No zero byte is added; bytes behind the canonical text keep
- * their contents.
+ * their contents. The canonical text of a blank rule is empty, and of no other rule.
  * Gives RULE_READ and the refusals 1 to 11, 13 and 17; 1 to 11 and 17 exactly where rule_read gives them, at the same place.
  * With RULE_BUFFER_BYTES bytes 13 is given only where the canonical text is longer than 16,384 bytes, which no buffer helps.
  */

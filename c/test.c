@@ -88,14 +88,25 @@ static bool is_reserved(const uint8_t *text, size_t length)
         || (length > 3 && (memcmp(text, "and", 3) == 0 || memcmp(text, "not", 3) == 0));
 }
 
+/* Whether a text is a blank rule: empty or all blanks, and not too long. */
+static bool is_blank(const uint8_t *text, size_t length)
+{
+    for (size_t i = 0; i < length; i++)
+        if (text[i] != 9 && text[i] != 10 && text[i] != 13 && text[i] != 32)
+            return false;
+    return length <= RULE_MAX_TEXT;
+}
+
 /* What both answers have in common; `written` is the count in items of the lent part, `lent` its length. */
 static void check_answer(const uint8_t *text, size_t length, struct rule_answer answer, size_t written, size_t lent)
 {
     CHECK(is_number(answer.number), "number %d", answer.number);
     if (answer.number == RULE_READ) {
         CHECK(answer.offset == 0, "read at %zu", answer.offset);
-        CHECK(answer.count >= 1 && written <= lent, "count %zu in a lent part of %zu", answer.count, lent);
+        CHECK(written <= lent, "count %zu in a lent part of %zu", answer.count, lent);
+        CHECK((answer.count == 0) == is_blank(text, length), "read with count %zu", answer.count);
     } else {
+        CHECK(!is_blank(text, length), "a blank rule refused with %d", answer.number);
         CHECK(answer.count == 0, "refused %d with count %zu", answer.number, answer.count);
         if (answer.number == RULE_TEXT_TOO_LONG)
             CHECK(answer.offset == RULE_MAX_TEXT && length > RULE_MAX_TEXT, "refused 1 at %zu", answer.offset);
@@ -109,7 +120,7 @@ static void check_answer(const uint8_t *text, size_t length, struct rule_answer 
     by_number[answer.number]++;
 }
 
-/* The nodes of a table form one tree: each child before its one parent, unused words 0, parts inside the text. */
+/* The nodes of a table, if any, form one tree: each child before its one parent, unused words 0, parts inside the text. */
 static void check_nodes(const uint8_t *text, size_t length, const uint32_t *nodes, size_t count)
 {
     static bool has_parent[RULE_MAX_NODES];
@@ -233,15 +244,17 @@ static struct rule_answer try_text(const void *bytes_of_text, size_t length)
     if (answer.number != RULE_READ)
         return read;
 
-    /* The canonical text reads to a tree that agrees, and is its own canonical text. */
+    /* The canonical text reads to a tree that agrees, or is a blank rule as the text is; and it is its own canonical text. */
     memcpy(canonical, bytes + MARGIN, answer.count);
     first.text = text;
     memcpy(first.nodes, table + MARGIN, sizeof(uint32_t) * RULE_NODE_WORDS * read.count);
     struct rule_answer again = call_read(canonical, answer.count, RULE_TABLE_WORDS);
     CHECK(again.number == RULE_READ && again.count <= read.count, "canonical text read: %d, count %zu", again.number, again.count);
+    CHECK((again.count == 0) == (read.count == 0), "canonical text read: count %zu, before %zu", again.count, read.count);
     second.text = canonical;
     memcpy(second.nodes, table + MARGIN, sizeof(uint32_t) * RULE_NODE_WORDS * again.count);
-    CHECK(agree(&first, (uint32_t)read.count - 1, &second, (uint32_t)again.count - 1), "canonical text: another tree");
+    CHECK(read.count == 0 || agree(&first, (uint32_t)read.count - 1, &second, (uint32_t)again.count - 1),
+          "canonical text: another tree");
     again = call_canonicalize(canonical, answer.count, RULE_BUFFER_BYTES);
     CHECK(again.number == RULE_READ && again.count == answer.count && memcmp(canonical, bytes + MARGIN, answer.count) == 0,
           "canonical text of canonical text: answer %d, count %zu", again.number, again.count);
@@ -274,7 +287,7 @@ static void try_lengths(const void *bytes_of_text, size_t length)
 
 static const char *const texts[] = {
     "a", "a + b * 3", "a - b - c", "- a + b", "- a * b", "a * - b", "a = b = c", "((a)) * (b + c)", "'not' = '12'", "( a",
-    "a , b",
+    "a , b", " \t\n\r", "( )", "let in end",
     "grade = 007 and not (leaver)",
     "age < 18 and not member or visits * 2 + guests = limit - 1",
     "let infix right 400 r ; in a r b + c end",
@@ -350,21 +363,25 @@ static void repeat(const char *part, int times)
         memcpy(long_text + end, part, size + 1);
 }
 
-/* Tries the text of the last repeats and checks the answer; count 0 stands for a refusal's. */
-static void expect(enum rule_number number, size_t offset, size_t count)
+/* Tries a text and checks the answer; count 0 stands for a refusal's and for a blank rule's. */
+static void expect_of(const void *bytes_of_text, size_t length, enum rule_number number, size_t offset, size_t count)
 {
-    const uint8_t *text = (const uint8_t *)long_text;
-    size_t length = strlen(long_text);
-    struct rule_answer answer = try_text(long_text, length);
+    const uint8_t *text = (const uint8_t *)bytes_of_text;
+    struct rule_answer answer = try_text(text, length);
     CHECK(answer.number == number && answer.offset == offset && answer.count == count, "expected %d %zu %zu, got %d %zu %zu",
           number, offset, count, answer.number, answer.offset, answer.count);
+}
+
+/* The same for the text of the last repeats; begins a new one. */
+static void expect(enum rule_number number, size_t offset, size_t count)
+{
+    expect_of(long_text, strlen(long_text), number, offset, count);
     long_text[0] = 0;
 }
 
 /* Document 01's limits, at the value and one past it, and its example of each refusal; document 02's reserved operators. */
 static void try_limits(void)
 {
-    expect(RULE_NO_TREE, 0, 0);
     repeat(" ", RULE_MAX_TEXT - 1); repeat("a", 1); expect(RULE_READ, 0, 1);
     repeat(" ", RULE_MAX_TEXT); repeat("a", 1); expect(RULE_TEXT_TOO_LONG, RULE_MAX_TEXT, 0);
     repeat("a", RULE_MAX_TEXT + 1); expect(RULE_TEXT_TOO_LONG, RULE_MAX_TEXT, 0);
@@ -438,6 +455,53 @@ static void try_limits(void)
     expect(RULE_READ, 0, 1023);
 }
 
+/*
+ * Document 02's blank rules, with lent parts of every length from 0 on; the same with a byte that is no blank; spans inside a
+ * text, which are never blank.
+ */
+static void try_blank(void)
+{
+    static const uint8_t blanks[] = {9, 10, 13, 32}, no_blanks[] = {0, 8, 11, 12, 14, 31, 95, 127, 133, 160, 255};
+    static uint8_t text[RULE_MAX_TEXT + 1];
+    for (size_t length = 0, different = 1; length <= 4; length++, different *= 4) {
+        for (size_t code = 0; code < different; code++) {
+            for (size_t i = 0, rest = code; i < length; i++, rest /= 4)
+                text[i] = blanks[rest % 4];
+            expect_of(text, length, RULE_READ, 0, 0);
+            try_lengths(text, length);
+        }
+    }
+    for (size_t i = 0; i < sizeof text; i++)
+        text[i] = blanks[below(4)];
+    expect_of(text, RULE_MAX_TEXT, RULE_READ, 0, 0);
+    try_lengths(text, RULE_MAX_TEXT);
+    expect_of(text, RULE_MAX_TEXT + 1, RULE_TEXT_TOO_LONG, RULE_MAX_TEXT, 0);
+    try_lengths(text, RULE_MAX_TEXT + 1);
+    for (int i = 0; i < 6; i++) {
+        size_t length = i < 3 ? 9 : RULE_MAX_TEXT, place = i % 3 * (length - 1) / 2;
+        uint8_t blank = text[place];
+        for (size_t j = 0; j < sizeof no_blanks; j++) {
+            text[place] = no_blanks[j];
+            expect_of(text, length, RULE_BAD_BYTE, place, 0);
+        }
+        text[place] = 'a';
+        expect_of(text, length, RULE_READ, 0, 1);
+        text[place] = ';';
+        expect_of(text, length, RULE_UNMATCHED, place, 0);
+        text[place] = blank;
+    }
+    repeat("()", 1); expect(RULE_NO_TREE, 0, 0);
+    repeat(" ( ) ", 1); expect(RULE_NO_TREE, 1, 0);
+    repeat("( ( ) )", 1); expect(RULE_NO_TREE, 2, 0);
+    repeat("a ( )", 1); expect(RULE_NO_TREE, 0, 0);
+    repeat("( ) a", 1); expect(RULE_NO_TREE, 0, 0);
+    repeat("a + ( )", 1); expect(RULE_NO_TREE, 4, 0);
+    repeat("let in end", 1); expect(RULE_NO_TREE, 4, 0);
+    repeat("let plain x ; in end", 1); expect(RULE_NO_TREE, 14, 0);
+    repeat("let in ( ) end", 1); expect(RULE_NO_TREE, 7, 0);
+    repeat("' '", 1); expect(RULE_READ, 0, 1);
+}
+
 /* T3 of document 01, to the byte, and the canonical texts of T13 and T14. */
 static void try_cases(void)
 {
@@ -462,7 +526,7 @@ static void try_cases(void)
     }
 }
 
-static void expect_refusal(const uint8_t *text, size_t length, struct rule_answer answer, enum rule_number number)
+static void expect_at_0(const uint8_t *text, size_t length, struct rule_answer answer, enum rule_number number)
 {
     check_answer(text, length, answer, 0, 0);
     CHECK(answer.number == number && answer.offset == 0, "expected %d at 0, got %d at %zu", number, answer.number, answer.offset);
@@ -472,14 +536,16 @@ static void expect_refusal(const uint8_t *text, size_t length, struct rule_answe
 /* Zero lengths, with a pointer to a page that may not be touched, and with null. */
 static void try_empty(void)
 {
-    const uint8_t *text = (const uint8_t *)"a";
+    const uint8_t *text = (const uint8_t *)"a", *blank = (const uint8_t *)" ";
     for (int null = 0; null < 2; null++) {
         uint8_t *nowhere = null ? NULL : text_end;
         uint32_t *no_words = (uint32_t *)(void *)nowhere;
-        expect_refusal(text, 0, rule_read(nowhere, 0, no_words, 0), RULE_NO_TREE);
-        expect_refusal(text, 0, rule_canonicalize(nowhere, 0, nowhere, 0), RULE_NO_TREE);
-        expect_refusal(text, 1, rule_read(text, 1, no_words, 0), RULE_TABLE_TOO_SHORT);
-        expect_refusal(text, 1, rule_canonicalize(text, 1, nowhere, 0), RULE_CANONICAL_TOO_LONG);
+        expect_at_0(text, 0, rule_read(nowhere, 0, no_words, 0), RULE_READ);
+        expect_at_0(text, 0, rule_canonicalize(nowhere, 0, nowhere, 0), RULE_READ);
+        expect_at_0(blank, 1, rule_read(blank, 1, no_words, 0), RULE_READ);
+        expect_at_0(blank, 1, rule_canonicalize(blank, 1, nowhere, 0), RULE_READ);
+        expect_at_0(text, 1, rule_read(text, 1, no_words, 0), RULE_TABLE_TOO_SHORT);
+        expect_at_0(text, 1, rule_canonicalize(text, 1, nowhere, 0), RULE_CANONICAL_TOO_LONG);
     }
 }
 
@@ -498,6 +564,7 @@ int main(void)
     try_cases();
     try_empty();
     try_limits();
+    try_blank();
     for (size_t i = 0; i < sizeof texts / sizeof *texts; i++) {
         try_prefixes(texts[i]);
         try_changes(texts[i]);

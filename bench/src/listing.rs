@@ -38,20 +38,22 @@ pub fn reading(text: &[u8]) -> String {
 }
 
 /// Splits a file of listings, with canonical texts or without. Behind the
-/// nodes of a reading come two lines if it has a canonical text, one if that
-/// is refused.
+/// nodes of a reading, of which a blank rule has none, come two lines if it
+/// has a canonical text, one if that is refused.
 pub fn split(file: &str) -> Vec<String> {
     let lines: Vec<&str> = file.lines().collect();
     let mut listings = Vec::new();
     let mut rest = &lines[..];
     while let Some(first) = rest.first() {
-        let nodes = first.strip_prefix("read ").and_then(|count| count.parse().ok()).unwrap_or(0);
-        let behind = match rest.get(1 + nodes) {
-            Some(line) if nodes > 0 && line.starts_with("tidy ") => 2,
-            Some(&"refused 13 at 0") if nodes > 0 => 1,
-            _ => 0,
+        let len = match first.strip_prefix("read ").and_then(|count| count.parse::<usize>().ok()) {
+            None => 1,
+            Some(nodes) => match rest.get(1 + nodes) {
+                Some(line) if line.starts_with("tidy ") => 1 + nodes + 2,
+                Some(&"refused 13 at 0") => 1 + nodes + 1,
+                _ => 1 + nodes,
+            },
         };
-        let (listing, next) = rest.split_at((1 + nodes + behind).min(rest.len()));
+        let (listing, next) = rest.split_at(len.min(rest.len()));
         listings.push(listing.join("\n") + "\n");
         rest = next;
     }

@@ -1,9 +1,10 @@
-//! The reader of document 01, with document 02's reserved operators: a text
-//! in, a node table or canonical text out.
+//! The reader of document 01, with document 02's reserved operators and blank
+//! rules: a text in, a node table or canonical text out.
 //!
 //! Four linear passes: tokens (checks 1 to 5), nesting (6, 7), operators in
 //! force (8, 17, 9, 10), trees (11). Nothing is written before check 12, or 13
-//! for canonical text, has passed.
+//! for canonical text, has passed. A blank rule is past all of them once it
+//! has been scanned.
 
 pub mod canonical;
 pub mod list;
@@ -25,8 +26,8 @@ pub const MAX_OPERATORS: usize = 64;
 pub const MAX_PRECEDENCE: u32 = 1200;
 pub const NODE_WORDS: usize = 5;
 
-/// Read: number 0, offset 0, count nodes or bytes written. Rejected: the
-/// check's number, its offset, count 0.
+/// Read: number 0, offset 0, count nodes or bytes written, 0 of a blank rule.
+/// Rejected: the check's number, its offset, count 0.
 #[derive(Clone, Copy, Debug, PartialEq, Eq)]
 pub struct Answer {
     pub number: u8,
@@ -79,8 +80,15 @@ pub fn canonicalize(text: &[u8], buffer: &mut [u8]) -> Answer {
     Answer::new(analyzed.and_then(|()| canonical::write(text, &tokens, &tree, buffer)))
 }
 
+/// Document 02, section 7: "A text that is empty or all blanks, past check 1,
+/// is now read: no nodes, and an empty tidy text".
+#[inline(always)]
+fn is_blank(tokens: &[Token]) -> bool {
+    tokens.is_empty()
+}
+
 /// Checks 1 to 11 and 17: the resolved tokens and the tree's nodes, children
-/// first.
+/// first; neither of a blank rule.
 pub fn analyze(
     text: &[u8],
     tokens: &mut List<Token, MAX_TOKENS>,
@@ -90,6 +98,9 @@ pub fn analyze(
         return Err(Reject::new(1, MAX_BYTES));
     }
     let nested = token::scan(text, tokens)?;
+    if is_blank(tokens) {
+        return Ok(());
+    }
     if nested {
         nesting::link(tokens, text.len())?;
     }

@@ -10,6 +10,8 @@ pub use random::Random;
 /// The tokens of a text, before they are joined.
 pub type Tokens = Vec<Vec<u8>>;
 
+const BLANKS: &[u8] = b" \t\n\r";
+
 pub struct Texts {
     random: Random,
 }
@@ -23,7 +25,8 @@ impl Texts {
     pub fn next(&mut self) -> Vec<u8> {
         let random = &mut self.random;
         match random.below(100) {
-            0..8 => random_bytes(random),
+            0 => blank_text(random),
+            1..8 => random_bytes(random),
             8..22 => random_tokens(random),
             22..62 => {
                 let tokens = rules::rule(random);
@@ -33,6 +36,19 @@ impl Texts {
             _ => limits::text(random),
         }
     }
+}
+
+/// A text of blanks, now and then about as long as a text may be; one in four
+/// with a byte among them that is no blank.
+fn blank_text(random: &mut Random) -> Vec<u8> {
+    let len = if random.one_in(8) { 16_383 + random.index(4) } else { random.index(41) };
+    let mut text: Vec<u8> = (0..len).map(|_| *random.pick(BLANKS)).collect();
+    if len > 0 && random.one_in(4) {
+        let any = random.index(len);
+        let at = *random.pick(&[0, any, len - 1]);
+        text[at] = *random.pick(&[0, 11, 12, 133, 160, b'_', b'a', b'(', b';']);
+    }
+    text
 }
 
 fn random_bytes(random: &mut Random) -> Vec<u8> {
@@ -85,7 +101,7 @@ pub fn join(random: &mut Random, tokens: &[Vec<u8>]) -> Vec<u8> {
 fn blanks(random: &mut Random, text: &mut Vec<u8>) {
     text.push(b' ');
     while random.one_in(4) {
-        text.push(*random.pick(b" \t\n\r"));
+        text.push(*random.pick(BLANKS));
     }
 }
 

@@ -1,15 +1,18 @@
 //! What document 01 says of canonical text, each by readings alone: the tree
 //! stays, no bracket and no quote is spare, one space between tokens, no
-//! leading zero. There is only one such text for a tree.
+//! leading zero. There is only one such text for a tree. By document 02 blank
+//! rules agree with each other and with no other rule.
 
 use rule_bench::reader::{self, Answer, MAX_BYTES};
 use rule_bench::texts::{Random, Texts};
 use std::collections::HashMap;
 
 /// A tree without its brackets: names by characters, numbers by value,
-/// operators by bytes, declarations by tokens.
+/// operators by bytes, declarations by tokens. `Blank` stands for a blank
+/// rule, which has none.
 #[derive(Debug, PartialEq)]
 enum Tree {
+    Blank,
     Name(Vec<u8>),
     Number(u32),
     Operator(u32, Vec<u8>, Vec<Tree>),
@@ -27,7 +30,8 @@ fn nodes(text: &[u8]) -> Result<Nodes, Answer> {
 
 fn tree(text: &[u8]) -> Option<Tree> {
     let nodes = nodes(text).ok()?;
-    Some(subtree(text, &nodes, nodes.len() - 1))
+    let root = nodes.len().checked_sub(1);
+    Some(root.map_or(Tree::Blank, |root| subtree(text, &nodes, root)))
 }
 
 fn subtree(text: &[u8], nodes: &Nodes, node: usize) -> Tree {
@@ -118,6 +122,7 @@ fn check(text: &[u8], written: &[u8], seen: &mut Seen) {
     let shown = || format!("{}\n{}", String::from_utf8_lossy(text), String::from_utf8_lossy(written));
     let expected = tree(text);
     assert_eq!(tree(written), expected, "{}", shown());
+    assert_eq!(written.is_empty(), expected == Some(Tree::Blank), "{}", shown());
     assert_eq!(canonical(written).as_deref(), Ok(written), "{}", shown());
     let tokens_written = tokens(written);
     let spaced: Vec<&[u8]> = tokens_written.iter().map(|token| token.1).collect();
@@ -186,11 +191,12 @@ fn canonical_text_of_each_tree() {
     }
 }
 
-/// Brackets, quotes, zeros and blanks that a text does not need.
+/// Brackets, quotes, zeros and blanks that a text does not need. A blank rule
+/// gets blanks only: brackets round nothing are refused.
 fn varied(text: &[u8], nodes: &Nodes, random: &mut Random) -> Vec<u8> {
     let leaves: HashMap<usize, u32> = nodes.iter().map(|node| (node[3] as usize, node[0])).collect();
-    let mut varied = Vec::new();
-    let whole = random.below(3) as usize;
+    let mut varied: Vec<u8> = (0..random.below(3)).map(|_| *random.pick(b" \t\n\r")).collect();
+    let whole = if nodes.is_empty() { 0 } else { random.below(3) as usize };
     varied.extend(b"(".repeat(whole));
     for (at, token) in tokens(text) {
         let kind = leaves.get(&(at + usize::from(token[0] == b'\''))).copied().unwrap_or(0);
@@ -216,7 +222,7 @@ fn varied(text: &[u8], nodes: &Nodes, random: &mut Random) -> Vec<u8> {
 fn texts_that_agree() {
     let mut texts = Texts::new(22);
     let mut random = Random::new(22);
-    let mut same = 0;
+    let (mut same, mut blank) = (0, 0);
     for _ in 0..30_000 {
         let text = texts.next();
         let Ok(nodes) = nodes(&text) else { continue };
@@ -227,8 +233,9 @@ fn texts_that_agree() {
             answer => assert_eq!(answer, canonical(&text), "{}", String::from_utf8_lossy(&varied)),
         }
         same += 1;
+        blank += u32::from(nodes.is_empty());
     }
-    assert!(same > 8000, "{same}");
+    assert!(same > 8000 && blank > 200, "{same} {blank}");
 }
 
 /// The canonical text goes to the front of a buffer that holds it; else 13,

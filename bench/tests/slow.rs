@@ -266,6 +266,10 @@ impl Reader {
 
 fn slow(text: &[u8]) -> Result<Vec<[usize; 5]>, Refusal> {
     let tokens = tokens(text)?;
+    // Document 02: a blank rule is read, without nodes.
+    if tokens.is_empty() {
+        return Ok(Vec::new());
+    }
     let (closers, ins) = nesting(&tokens, text.len())?;
     let mut tables = vec![start_table()];
     let mut roles = vec![None; tokens.len()];

@@ -1,5 +1,6 @@
-//! The generated texts meet every check, and the reader keeps to the node
-//! table: a rejection changes nothing, a reading only its own words.
+//! The generated texts meet every check and blank rules, and the reader keeps
+//! to the node table: a rejection changes nothing, a reading only its own
+//! words.
 
 use rule_bench::reader::{Answer, read};
 use rule_bench::texts::{Random, Texts};
@@ -25,6 +26,28 @@ fn every_check_occurs() {
     assert!(seen[0] > 12_000 && seen.iter().enumerate().all(right), "{seen:?}");
 }
 
+/// Empty or all blanks.
+fn is_blank(text: &[u8]) -> bool {
+    text.iter().all(|byte| b" \t\n\r".contains(byte))
+}
+
+#[test]
+fn blank_texts_occur() {
+    let (mut empty, mut short, mut longest, mut too_long) = (0, 0, 0, 0);
+    let mut texts = Texts::new(3);
+    for text in (0..40_000).map(|_| texts.next()).filter(|text| is_blank(text)) {
+        match text.len() {
+            0 => empty += 1,
+            1..=40 => short += 1,
+            16_384 => longest += 1,
+            16_385 => too_long += 1,
+            _ => {}
+        }
+    }
+    println!("blank texts: {empty} {short} {longest} {too_long}");
+    assert!(empty >= 100 && short >= 200 && longest >= 3 && too_long >= 3);
+}
+
 #[test]
 fn node_table() {
     let mut texts = Texts::new(5);
@@ -35,7 +58,8 @@ fn node_table() {
         let answer = read(&text, &mut full);
         let words = 5 * answer.count;
         assert!(full[words..].iter().all(|&word| word == PATTERN));
-        assert_eq!(answer.number == 0, answer.count > 0);
+        let blank = is_blank(&text) && text.len() <= 16_384;
+        assert_eq!(answer.number == 0, answer.count > 0 || blank);
         for len in [words + random.index(9), words, words.saturating_sub(1 + random.index(7))] {
             let mut nodes = vec![PATTERN; len];
             let short = read(&text, &mut nodes);

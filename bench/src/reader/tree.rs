@@ -189,7 +189,8 @@ impl Builder<'_> {
     }
 }
 
-/// Builds the tree of a text's spans, children before parents.
+/// Builds the tree of a text's spans, children before parents. An empty span
+/// has none; the caller builds none for a text without tokens.
 pub fn build(tokens: &[Token], nodes: &mut List<Node, MAX_TOKENS>) -> Result<(), Reject> {
     let mut builder = Builder { tokens, nodes, pending: List::new(), operand: None };
     builder.open(NodeKind::Block, 0, 0);

@@ -1,6 +1,6 @@
 -- Recorded cases (their results come from an interpretation of document 01 written apart
 -- from this project): texts with what the program prints for them. Spread over the refusals that a text can give, overloaded
--- blocks and plain rules.
+-- blocks, plain rules and blank ones.
 use mathlib.Core.List.{List, [], _∷_}
 use Rattle.grammar.specs.Bytes.{Bytes, bytes}
 
@@ -149,4 +149,9 @@ cases =
     ∷ record { text = bytes "let plain - ; prefix non 07 and ; plain in a end"; listing = bytes "refused 17 at 28\n" }
     ∷ record { text = bytes "let plain not ; prefix left 4 k ; in a end"; listing = bytes "refused 17 at 10\n" }
     ∷ record { text = bytes "let prefix right 9 q ; infix right 3 q ; plain not ; plain in a and b end"; listing = bytes "refused 17 at 47\n" }
+    ∷ record { text = bytes " "; listing = bytes "read 0\ntidy 0\n\n" }
+    ∷ record { text = (9 ∷ 13 ∷ 10 ∷ 32 ∷ []); listing = bytes "read 0\ntidy 0\n\n" }
+    ∷ record { text = bytes "()"; listing = bytes "refused 11 at 0\n" }
+    ∷ record { text = bytes " ( ) "; listing = bytes "refused 11 at 1\n" }
+    ∷ record { text = bytes "let in end"; listing = bytes "refused 11 at 4\n" }
     ∷ []
