@@ -54,6 +54,10 @@ limits =
     -- 16,384 bytes pass.
     success (bytes "a" ++ repeated 16383 (bytes " ")) 1 1
     ∷ refusal (repeated 16385 (bytes "a")) 1 16384
+    -- So it is with blanks: a blank rule, whatever is lent, and one byte too many.
+    ∷ success (repeated 16384 (bytes " ")) 0 0
+    ∷ refusal (repeated 16385 (bytes " ")) 1 16384
+    ∷ record { text = bytes " "; words = 0; room = 0; reading = answer 0 0 0; canonicalizing = answer 0 0 0 }
     -- 1,024 tokens pass.
     ∷ refusal (repeated 1024 (bytes "a ")) 11 0
     ∷ refusal (repeated 1025 (bytes "a ")) 5 2048

@@ -22,6 +22,14 @@ use Rattle.grammar.proofs.ReadingTrees.{of-none}
 use Rattle.grammar.proofs.Readings.{read-as}
 use Rattle.grammar.proofs.Faults.{checked-past, past-checked}
 
+pub checked-blank : (text : Bytes) (ps : List Placed) → PastChecks text ps → tokensOf ps ≡ [] → Blank text
+checked-blank text ps h q =
+    let s : Spells text [] = rw q at (scan-spelled mostTokens 0 text ps (h .scanned)) in
+    record { short = h .short; blank = go (s .split) (s .blank) }
+  where
+    go : {rest : Bytes} → Splits text [] rest → every isBlankByte rest ≡ true → every isBlankByte text ≡ true
+    go noMore e = e
+
 -- Without a token there is nothing to nest and no block.
 none-checked :
     (text : Bytes) (ps : List Placed) → length text ≤ longestText → scan mostTokens 0 text ≡ passed ps → tokensOf ps ≡ [] → PastChecks text ps
@@ -37,14 +45,6 @@ pub blank-checked : (text : Bytes) → Blank text → (ps : List Placed) × Past
 blank-checked text b =
     let (ps, e, q) = scan-spells (spells-none (b .blank)) mostTokens 0 (omega arith) in
     (ps, none-checked text ps (b .short) e q, q)
-
-pub checked-blank : (text : Bytes) (ps : List Placed) → PastChecks text ps → tokensOf ps ≡ [] → Blank text
-checked-blank text ps h q =
-    let s : Spells text [] = rw q at (scan-spelled mostTokens 0 text ps (h .scanned)) in
-    record { short = h .short; blank = go (s .split) (s .blank) }
-  where
-    go : {rest : Bytes} → Splits text [] rest → every isBlankByte rest ≡ true → every isBlankByte text ≡ true
-    go noMore e = e
 
 pub blank-past : (text : Bytes) → Blank text ↔ Past text []
 blank-past text = (

@@ -18,7 +18,7 @@ use Rattle.grammar.specs.Fault.{Past}
 use Rattle.grammar.specs.Claim.{ofBlank}
 use Rattle.grammar.proofs.BlankRules.{empty-inside}
 use Rattle.reader.specs.declared.Answer.{Answer}
-use Rattle.reader.specs.Answered.{nothingWritten, Reads, Canonicalizes}
+use Rattle.reader.specs.Answered.{written, Reads, Canonicalizes}
 use Rattle.reader.specs.Demands.{Right}
 use Rattle.reader.proofs.ReadCalls as ReadCalls
 use Rattle.reader.proofs.CanonicalCalls as CanonicalCalls
@@ -28,7 +28,7 @@ module _
     {own : ℕ} {Fits : Tree → Type 0} {Holds : List ℕ → ℕ → Tree → Type 0} {text : Bytes} {B B′ : List ℕ} {a : Answer}
     (right : Right isReserved own Fits Holds text B B′ a) where
   blank-call :
-      Blank text → Fits blankRule → ((c : ℕ) → Holds B′ c blankRule → (c ≡ 0) × (B′ ≡ B)) → (a ≡ nothingWritten) × (B′ ≡ B)
+      Blank text → Fits blankRule → ((c : ℕ) → Holds B′ c blankRule → (c ≡ 0) × (B′ ≡ B)) → (a ≡ written 0) × (B′ ≡ B)
   blank-call b fits empty =
       let read = right .answers .success .1 (blankRule, ofBlank b, fits) in
       let place = right .answers .placeZero (inl read) in
@@ -41,14 +41,14 @@ module _
       let (x, us, p, own, first) = empty-inside text ts past s among i opened none in
       right .answers .eleven p .1 (x, us, own, first) .0
 
-pub blank-read : (text : Bytes) → Blank text → (N N′ : List ℕ) (a : Answer) → Reads text N N′ a → (a ≡ nothingWritten) × (N′ ≡ N)
+pub blank-read : (text : Bytes) → Blank text → (N N′ : List ℕ) (a : Answer) → Reads text N N′ a → (a ≡ written 0) × (N′ ≡ N)
 unfolding count
 blank-read text b N N′ a h =
     blank-call (ReadCalls.right text N N′ a h) b (omega arith)
     (λ c held. (held .counted, subst (λ k. drop (wordsPerNode * k) N′ ≡ drop (wordsPerNode * k) N) (held .counted) (held .behind)))
 
 pub blank-canonicalized :
-    (text : Bytes) → Blank text → (B B′ : List ℕ) (a : Answer) → Canonicalizes text B B′ a → (a ≡ nothingWritten) × (B′ ≡ B)
+    (text : Bytes) → Blank text → (B B′ : List ℕ) (a : Answer) → Canonicalizes text B B′ a → (a ≡ written 0) × (B′ ≡ B)
 unfolding canonical canonicalText flat joinTokens
 blank-canonicalized text b B B′ a h =
     blank-call (CanonicalCalls.right text B B′ a h) b (omega arith, omega arith)

@@ -34,7 +34,7 @@ use Rattle.grammar.proofs.Rules as Rules
 use Rattle.grammar.proofs.BlankRules as BlankRules
 use Rattle.grammar.proofs.ReservedRoles as ReservedRoles
 use Rattle.reader.specs.declared.Answer.{Answer}
-use Rattle.reader.specs.Answered.{nothingWritten, Reads, Canonicalizes}
+use Rattle.reader.specs.Answered.{written, Reads, Canonicalizes}
 use Rattle.reader.specs.Demands.{RightAnswer, TableFits, BufferFits, TableHolds, BufferHolds, RightReading, RightCanonical}
 use Rattle.reader.proofs.ReadCalls as ReadCalls
 use Rattle.reader.proofs.CanonicalCalls as CanonicalCalls
@@ -144,11 +144,11 @@ reserved-roles = ReservedRoles.reserved-roles
 
 -- Document 02, §7: "A text that is empty or all blanks, past check 1, is now read: no nodes, and an empty tidy text". With any table and any
 -- buffer, of length 0 too; no word and no byte changes.
-pub blank-read : (text : Bytes) → Blank text → (N N′ : List ℕ) (a : Answer) → Reads text N N′ a → (a ≡ nothingWritten) × (N′ ≡ N)
+pub blank-read : (text : Bytes) → Blank text → (N N′ : List ℕ) (a : Answer) → Reads text N N′ a → (a ≡ written 0) × (N′ ≡ N)
 blank-read = BlankCalls.blank-read
 
 pub blank-canonicalized :
-    (text : Bytes) → Blank text → (B B′ : List ℕ) (a : Answer) → Canonicalizes text B B′ a → (a ≡ nothingWritten) × (B′ ≡ B)
+    (text : Bytes) → Blank text → (B B′ : List ℕ) (a : Answer) → Canonicalizes text B B′ a → (a ≡ written 0) × (B′ ≡ B)
 blank-canonicalized = BlankCalls.blank-canonicalized
 
 -- "for the rest the reading is fixed here": a text past checks 1 to 10 without a token is a blank one.

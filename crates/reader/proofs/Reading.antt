@@ -26,7 +26,7 @@ use Rattle.checks.specs.Checking.{Passes, Outcomes, Checking}
 use Rattle.checks.specs.declared.Checked.{Checked}
 use Rattle.checks.specs.declared.Checked.the-variants.{Blank, Passed, Refused}
 use Rattle.reader.specs.Found.{Found}
-use Rattle.reader.specs.Answered.{answerOf, resultOf, refusedWith, nothingWritten, Reads}
+use Rattle.reader.specs.Answered.{answerOf, resultOf, refusedWith, written, Reads}
 
 -- Check 1.
 pub reads-long : (text : Bytes) (N : List ℕ) → longestText < length text → Reads text N N (refusedWith 1 longestText)
@@ -76,7 +76,7 @@ module _ (text : Bytes) (K R O : List ℕ) (c : Checked) (h : Checking text K R 
               f ∙ ap₂ (λ ps t. passed (record { tokens = ps; tree = t })) q blank
           there (p ∷ ps) q g = let z = sym (g .0 .1) ∙ e in impossible cc
 
-  pub reads-blank : (N : List ℕ) → c ≡ Blank → Reads text N N nothingWritten
+  pub reads-blank : (N : List ℕ) → c ≡ Blank → Reads text N N (written 0)
   unfolding G.read readInto success answerOf resultOf readingWords words count G.over
   reads-blank N e = rw (blank-reads e) (rw (le-leb (wordsPerNode * count blankRule) (length N) (omega arith), readInto))
 
@@ -120,7 +120,7 @@ module _ {text : Bytes} {K R O : List ℕ} {n k at : ℕ} (f : Found text K R O 
       }
 
   -- What it leaves is the reading.
-  pub reads-words : (N N′ : List ℕ) (c : ℕ) → k * 5 ≤ length N → Built K O 0 at n N 0 N′ c → Reads text N N′ (record { number = 0; offset = 0; count = c })
+  pub reads-words : (N N′ : List ℕ) (c : ℕ) → k * 5 ≤ length N → Built K O 0 at n N 0 N′ c → Reads text N N′ (written c)
   unfolding G.read readInto success answerOf resultOf readingWords
   reads-words N N′ c l b =
       let t = f .reading .tree in

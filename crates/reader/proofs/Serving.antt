@@ -11,7 +11,7 @@ use Rattle.checks.specs.Checking.{Checking}
 use Rattle.checks.specs.declared.Checked.{Checked}
 use Rattle.checks.specs.declared.Checked.the-variants.{Blank, Refused}
 use Rattle.reader.specs.declared.Answer.{Answer}
-use Rattle.reader.specs.Answered.{refusedWith, nothingWritten, Reads, Canonicalizes, Serves}
+use Rattle.reader.specs.Answered.{refusedWith, written, Reads, Canonicalizes, Serves}
 use Rattle.reader.proofs.Reading.{reads-long, reads-refused, reads-blank}
 use Rattle.reader.proofs.Writing.{canonical-too-long, canonical-refused, canonical-blank}
 
@@ -36,7 +36,7 @@ module _ (canonical : Bool) (text : Bytes) where
       }
 
   pub serves-blank :
-      (K R O : List ℕ) {N B : List ℕ} (c : Checked) → Checking text K R O c → c ≡ Blank → Serves canonical text N N B B nothingWritten
+      (K R O : List ℕ) {N B : List ℕ} (c : Checked) → Checking text K R O c → c ≡ Blank → Serves canonical text N N B B (written 0)
   serves-blank K R O {N} {B} c h e =
       record {
         reading = λ f. (reads-blank text K R O c h N e, refl);

@@ -17,7 +17,7 @@ use Rattle.canonical_text.specs.Pieces.{Prepared, joinPieces, pieces}
 use Rattle.checks.specs.Checking.{Checking}
 use Rattle.checks.specs.declared.Checked.{Checked}
 use Rattle.checks.specs.declared.Checked.the-variants.{Blank, Refused}
-use Rattle.reader.specs.Answered.{answerOf, resultOf, refusedWith, nothingWritten, Canonicalizes}
+use Rattle.reader.specs.Answered.{answerOf, resultOf, refusedWith, written, Canonicalizes}
 use Rattle.reader.specs.Found.{Found}
 use Rattle.reader.proofs.Reading.{refused-reads, blank-reads}
 
@@ -34,7 +34,7 @@ unfolding G.canonicalize canonicalizeInto rejection answerOf resultOf
 canonical-refused text K R O c h B m p e = rw (refused-reads text K R O c h m p e)
 
 -- A blank text.
-pub canonical-blank : (text : Bytes) (K R O : List ℕ) (c : Checked) → Checking text K R O c → (B : List ℕ) → c ≡ Blank → Canonicalizes text B B nothingWritten
+pub canonical-blank : (text : Bytes) (K R O : List ℕ) (c : Checked) → Checking text K R O c → (B : List ℕ) → c ≡ Blank → Canonicalizes text B B (written 0)
 unfolding G.canonicalize canonicalizeInto writeInto success answerOf resultOf readingText canonical canonicalText flat joinTokens G.over
 canonical-blank text K R O c h B e =
     rw (blank-reads text K R O c h e) (rw (le-leb 0 (length B) (omega arith), writeInto))
@@ -65,7 +65,7 @@ module _
     -- They do, and it is written.
     pub canonical-written :
         total ≤ length B → total ≤ longestText → (B′ : List ℕ) → B′ ≡ G.over (joinPieces (pieces text K′ 0 n)) B
-        → Canonicalizes text B B′ (record { number = 0; offset = 0; count = total })
+        → Canonicalizes text B B′ (written total)
     unfolding G.canonicalize canonicalizeInto writeInto success answerOf resultOf
     canonical-written a l B′ w =
         let t : leb (length own) (length B) && leb (length own) longestText ≡ true =

@@ -20,9 +20,9 @@ resultOf a buffer = record { answer = answerOf a; buffer = buffer }
 abbrev pub refusedWith : ℕ → ℕ → Answer
 refusedWith n p = record { number = n; offset = p; count = 0 }
 
--- 02, §7: "no nodes, and an empty tidy text".
-abbrev pub nothingWritten : Answer
-nothingWritten = record { number = 0; offset = 0; count = 0 }
+-- "Read: 0, 0, nodes or bytes written."
+abbrev pub written : ℕ → Answer
+written c = record { number = 0; offset = 0; count = c }
 
 -- Reading: the text, the node table before and after, the answer.
 abbrev pub Reads : Bytes → List ℕ → List ℕ → Answer → Type 0

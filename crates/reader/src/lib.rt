@@ -7,7 +7,7 @@ ghost use mathlib.Core.Path.{_≡_};
 ghost use Rattle.checks.specs.Checking.{Checkable};
 ghost use mathlib.Core.List.{List};
 ghost use Prim.Native.Nat.{ℕ};
-ghost use Rattle.reader.specs.Answered.{refusedWith, nothingWritten, Reads, Canonicalizes, Serves, nodeCharacters};
+ghost use Rattle.reader.specs.Answered.{refusedWith, written, Reads, Canonicalizes, Serves, nodeCharacters};
 ghost use Rattle.reader.specs.Found.{Found};
 
 pub const MAX_BYTES: usize = 16384;
@@ -43,14 +43,14 @@ fn refused(number: u8, offset: usize) -> Answer
     }
 }
 
-// The answer of a blank rule: read, and nothing written.
-fn blank() -> Answer
-    ensures { λ r. ⌜ r ≡ nothingWritten ⌝ }
+// A success by the count of what was written.
+fn success(count: usize) -> Answer
+    ensures { λ r. ⌜ r ≡ written count ⌝ }
 {
     Answer {
         number: 0,
         offset: 0,
-        count: 0,
+        count,
     }
 }
 
@@ -71,11 +71,7 @@ fn write_nodes(
         return refused(TABLE_TOO_SHORT, 0);
     }
     let written = build::build(tokens, roots, 0, at, count, nodes, 0);
-    Answer {
-        number: 0,
-        offset: 0,
-        count: written,
-    }
+    success(written)
 }
 
 // Writes the canonical text of the tokens, if it fits.
@@ -98,11 +94,7 @@ fn write_text(
         return refused(BUFFER_TOO_SHORT, 0);
     }
     pieces::write(text, tokens, count, buffer);
-    Answer {
-        number: 0,
-        offset: 0,
-        count: n,
-    }
+    success(n)
 }
 
 // Checks 2 to 11 and 17, and then one of the two: canonical text into the buffer, or nodes into the table.
@@ -120,7 +112,7 @@ fn serve_in(
 {
     match checks::check(text, tokens, roles, roots) {
         Checked::Refused { number, offset } => refused(number, offset),
-        Checked::Blank => blank(),
+        Checked::Blank => success(0),
         Checked::Passed {
             tokens: count,
             nodes: k,

@@ -127,4 +127,8 @@ fn main() {
     run(Service::Canonicalize, b"a+b", 5);
     run(Service::Canonicalize, b"((a)) * (b + c)", 13);
     run(Service::Canonicalize, b"a - - b", 7);
+    run_into(Service::Read, b" ", 0);
+    run_into(Service::Read, b" ", 30);
+    run_into(Service::Canonicalize, b" ", 0);
+    run_into(Service::Canonicalize, b" ", 30);
 }

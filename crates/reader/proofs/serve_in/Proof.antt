@@ -17,8 +17,8 @@ refused-requires c κs = search needs
 enum-told : tie.Need-enum-told
 enum-told c = search needs
 
-blank-requires : tie.Need-blank-requires
-blank-requires c κs = search needs
+success-requires : tie.Need-success-requires
+success-requires c κs = search needs
 
 enum-known-count : tie.Need-enum-known-count
 enum-known-count c = search needs
@@ -81,7 +81,7 @@ same-length-10 c = search needs
 returns-3 : tie.Need-returns-3
 returns-3 c =
     let a = c .before .before .before .before .before .before .before .before .before in
-    rw (c .blank .ensures) (serves-blank _ _ _ _ _ _ (a .check .ensures) (c .before .enum-told .given .1))
+    rw (c .success .ensures) (serves-blank _ _ _ _ _ _ (a .check .ensures) (c .before .enum-told .given .1))
 
 same-length-11 : tie.Need-same-length-11
 same-length-11 c = search needs
@@ -111,7 +111,7 @@ serve-in-spec =
     enum-known-number
     refused-requires
     enum-told
-    blank-requires
+    success-requires
     enum-known-count
     write-text-requires
     same-length

@@ -20,13 +20,17 @@ build-requires : tie.Need-build-requires
 build-requires c κs =
     buildable (c .before .before .before .before .before .pre .2) _ (c .before .if1 .left)
 
+success-requires : tie.Need-success-requires
+success-requires c κs = search needs
+
 same-length : tie.Need-same-length
 same-length c = search needs
 
 returns-2 : tie.Need-returns-2
 returns-2 c =
-    λ text R f. reads-words f _ _ _ (c .before .before .before .before .if1 .left) (c .before .before .build .ensures)
+    λ text R f.
+    rw (c .success .ensures) (reads-words f _ _ _ (c .before .before .before .before .before .if1 .left) (c .before .before .before .build .ensures))
 
 pub write-nodes-spec : {M : Type 1} → statement M
 write-nodes-spec =
-    tie.close (tie.spec mul-if1 refused-requires returns build-requires same-length returns-2)
+    tie.close (tie.spec mul-if1 refused-requires returns build-requires success-requires same-length returns-2)

@@ -39,6 +39,9 @@ write-requires c κs =
     let p = c .before .before .before .before .before .before .prepare .ensures (f .reading) (f .ready) (f .tokens) in
     (p .inText, omega (arith, parts-length p, c .before .before .before .if1 .left))
 
+success-requires : tie.Need-success-requires
+success-requires c κs = search needs
+
 same-length-3 : tie.Need-same-length-3
 same-length-3 c = search needs
 
@@ -47,13 +50,13 @@ same-length-4 c = search needs
 
 returns-3 : tie.Need-returns-3
 returns-3 c =
-    let a = c .before .before .before .before .before in
+    let a = c .before .before .before .before .before .before in
     let b = a .before in
     let d = b .before .before .before in
     let e = d .before .before .before .before .before .before .before in
     let f = e .pre .2 in
     let p = d .prepare .ensures (f .reading) (f .ready) (f .tokens) in
-    canonical-written f _ _ _ p (b .if1 .left) (a .if2 .left) _ (c .before .before .write .ensures)
+    rw (c .success .ensures) (canonical-written f _ _ _ p (b .if1 .left) (a .if2 .left) _ (c .before .before .before .write .ensures))
 
 pub write-text-spec : {M : Type 1} → statement M
 write-text-spec =
@@ -67,6 +70,7 @@ write-text-spec =
     same-length-2
     returns-2
     write-requires
+    success-requires
     same-length-3
     same-length-4
     returns-3)
