@@ -7,12 +7,12 @@ use Prim.Native.Nat.{ℕ, suc, _≤_, _<_}
 use native.Mathlib.Omega.{arith}
 use lib.ListN.{length}
 use Rattle.grammar.specs.Bytes.{Bytes}
-use Rattle.grammar.specs.Outcome.{refused, passed, andThen, placed}
+use Rattle.grammar.specs.Outcome.{refused, passed, placed}
 use Rattle.grammar.specs.Scan.{Placed}
 use Rattle.grammar.specs.Declaration.{startTable}
 use Rattle.grammar.specs.Tree.{Tree}
 use Rattle.grammar.specs.Blocks.{checkBlocks, spans, treelessOpener, treeOf}
-use Rattle.grammar.specs.Answer.{Reading, tokensOf, offsetOf, readText, readSpans, spanOffset, spansOf, PastChecks}
+use Rattle.grammar.specs.Answer.{Reading, tokensOf, readText, readSpans, spanOffset, spansOf, PastChecks}
 use Rattle.grammar.specs.Nodes.{count}
 use Rattle.grammar.proofs.Scanned.{length-tokens}
 use Rattle.grammar.proofs.SpanOrder.{treeless-within}
@@ -26,7 +26,7 @@ use Rattle.rows.specs.Agreeing.{Agrees}
 use Rattle.rows.specs.Standing.{mark}
 use Rattle.rows.specs.Reading.{Ready}
 use Rattle.rows.proofs.Bounded.{bounded-start}
-use Rattle.climb.specs.Searched.{Rows, InForce, Flat, treeless, Checks}
+use Rattle.climb.specs.Searched.{Rows, InForce, treeless, Checks}
 use Rattle.climb.specs.Searched as Climb
 use Rattle.climb.specs.declared.spans.Spans.{Spans}
 use Rattle.climb.specs.declared.spans.Spans.the-variants as Answer

@@ -1,5 +1,5 @@
--- Document 02, §7: blank rules agree with each other and with no other rule; a text with a token reads as its tree; and what is empty inside
--- a text still has no tree.
+-- Document 02, §7: blank rules agree with each other and with no other rule, and no other rule has no nodes or an empty canonical text; a
+-- text with a token reads as its tree; and what is empty inside a text still has no tree.
 use mathlib.Core.Path.{_≡_, refl, sym, ap, _∙_}
 use mathlib.Core.Logic.{_↔_}
 use mathlib.Core.Bool.{true, true≢false}
@@ -8,22 +8,25 @@ use mathlib.Core.Option.{some}
 use Prim.Native.Nat.{ℕ}
 use native.Mathlib.Omega.{arith}
 use lib.ListN.{length, length-append}
-use Rattle.grammar.specs.Bytes.{Bytes}
+use Rattle.grammar.specs.Bytes.{Bytes, every}
 use Rattle.grammar.specs.Token.{Token, symbol}
 use Rattle.grammar.specs.Operator.{Table}
-use Rattle.grammar.specs.Declaration.{startTable, declareAll}
-use Rattle.grammar.specs.Span.{Item, single}
+use Rattle.grammar.specs.Declaration.{startTable}
+use Rattle.grammar.specs.Span.{single}
 use Rattle.grammar.specs.Spans.{Span, SpanOf}
-use Rattle.grammar.specs.SpanTree.{SpanTree, missing, operand, apply, yield, present, IsSpanTree}
-use Rattle.grammar.specs.Tree.{Tree, nothing, leaf, bracket, block, node, spanTree, InnerOk}
+use Rattle.grammar.specs.SpanTree.{SpanTree, missing, operand, apply, yield, present}
+use Rattle.grammar.specs.Tree.{Tree, nothing, leaf, bracket, block, node, flat, spanTree, InnerOk}
 use Rattle.grammar.specs.Blank.{Blank, blankRule}
+use Rattle.grammar.specs.Nodes.{count}
+use Rattle.grammar.specs.Canonical.{canonical, canonicalText, joinTokens}
 use Rattle.grammar.specs.Abstract.{absent, abstract, Agree}
 use Rattle.grammar.specs.Fault.{Past}
-use Rattle.grammar.specs.Claim.{HasNoTree, FirstWithout, TreeOf, ReadingOf, ofTree, ofBlank}
+use Rattle.grammar.specs.Claim.{HasNoTree, FirstWithout, TreeOf, ReadingOf, ofTree, ofBlank, canonicalBytes}
 use Rattle.grammar.proofs.Scanned.{spells-unique}
 use Rattle.grammar.proofs.Logic.{impossible}
+use Rattle.grammar.proofs.Present.{counted}
 use Rattle.grammar.proofs.BlankTexts.{blank-past}
-use Rattle.grammar.proofs.Rules.{same-reading, treeless-exactly, inside-some, span-without}
+use Rattle.grammar.proofs.Rules.{same-reading, canonical-same, treeless-exactly, inside-some, span-without}
 
 -- A tree that is there agrees with no blank rule: under its brackets stands something.
 something : (T : Table) (t : Tree) → InnerOk T t → present (spanTree t) ≡ true → abstract t ≡ absent → ⊥
@@ -47,6 +50,22 @@ blank-agreement text other t u h g b =
     go v (ofTree k) e = absurd (something startTable v (k .isTree .inner) (k .isTree .outer .1) e)
     go v (ofBlank c) e = c
 
+-- No other rule has no nodes, or an empty canonical text.
+pub blank-nodes : (text : Bytes) (t : Tree) → ReadingOf text t → count t ≡ 0 → Blank text
+blank-nodes text t (ofTree h) e = absurd (omega (arith, counted t (h .isTree .outer .1)))
+blank-nodes text t (ofBlank b) e = b
+
+pub blank-canonical : (text : Bytes) (t : Tree) → ReadingOf text t → length (canonicalBytes t) ≡ 0 → Blank text
+unfolding canonical canonicalText flat joinTokens every
+blank-canonical text t h e =
+    let none : Blank [] = record { short = omega arith; blank = refl } in
+    let same : [] ≡ canonicalBytes t = sym (go (canonicalBytes t) e) in
+    blank-agreement [] text blankRule t (ofBlank none) h none .0 (canonical-same [] text blankRule t (ofBlank none) h .0 same)
+  where
+    go : (s : Bytes) → length s ≡ 0 → s ≡ []
+    go [] q = refl
+    go (b ∷ s) q = absurd (omega arith)
+
 -- Of a text with at least one token, what it reads as is its tree.
 pub reading-exactly : (text : Bytes) (x : Token) (ts : List Token) → Past text (x ∷ ts) → (t : Tree) → ReadingOf text t ↔ TreeOf text t
 reading-exactly text x ts past t = (go t, ofTree)
@@ -56,10 +75,6 @@ reading-exactly text x ts past t = (go t, ofTree)
     go u (ofBlank b) =
         let same : [] ≡ x ∷ ts = spells-unique (blank-past text .0 b .spelled) (past .spelled) in
         impossible cc
-
--- Any two trees of one text are the same.
-pub same-tree : (text : Bytes) (t u : Tree) → TreeOf text t → TreeOf text u → t ≡ u
-same-tree text t u h g = same-reading text t u (ofTree h) (ofTree g)
 
 -- "Nothing at all has no tree": an empty bracket pair or block body.
 empty-treeless : (s : Span) → s .contents ≡ [] → HasNoTree s

@@ -1,23 +1,15 @@
 -- Every operator of a tree has an operand, so it has a fixity, and its node has five words.
 use mathlib.Core.Path.{_≡_, refl}
-use mathlib.Core.List.{List}
 use mathlib.Core.Option.{some}
-use Prim.Native.Nat.{ℕ, zero, suc, _+_, _*_}
+use Prim.Native.Nat.{ℕ, suc, _+_, _*_}
 use native.Mathlib.Omega.{arith}
 use lib.ListN.{length, length-append}
-use Rattle.grammar.specs.Token.{Token}
 use Rattle.grammar.specs.Operator.{Fixity, Prefix, Infix, Postfix, Table}
-use Rattle.grammar.specs.Declaration.{declareAll, allTokens, declarations}
-use Rattle.grammar.specs.Span.{Item, single, pair, scope, items}
-use Rattle.grammar.specs.SpanTree.{SpanTree, missing, operand, apply, present, fixity, Admitted}
+use Rattle.grammar.specs.Declaration.{declareAll, allTokens}
+use Rattle.grammar.specs.SpanTree.{fixity, Admitted}
 use Rattle.grammar.specs.Tree.{Tree, nothing, leaf, bracket, block, node, flat, spanTree, InnerOk}
-use Rattle.grammar.specs.Climb.{climb}
-use Rattle.grammar.specs.Blocks.{hangItem, hang, hangFound, treeIn}
 use Rattle.grammar.specs.Nodes.{count, nodeWords, wordsPerNode, operatorWords, words}
 use Rattle.grammar.proofs.AdmittingRole.{admitting-role}
-use Rattle.grammar.proofs.Climb.{climb-sound}
-use Rattle.grammar.proofs.Hung.{underBracket-some, underBlock-some, underOperator-some}
-use Rattle.grammar.proofs.Logic.{impossible}
 
 abbrev pub Operated : Tree → Type 0
 Operated nothing = Unit {0}

@@ -20,7 +20,7 @@ use Rattle.grammar.specs.Blocks.{checkBlocks, spans, treeOf}
 use Rattle.grammar.specs.Fault.{Past, longestText}
 use Rattle.grammar.specs.Answer.{Reading, PastChecks, tokensOf, spanOffset, spansOf, readText, readingText}
 use Rattle.grammar.specs.Abstract.{Agree}
-use Rattle.grammar.specs.Claim.{BlocksLawful, HasNoTree, SpanPlace, FirstWithout, ReadingOf, ofTree, ofBlank, canonicalTree, canonicalBytes, Faithful}
+use Rattle.grammar.specs.Claim.{BlocksLawful, HasNoTree, SpanPlace, FirstWithout, TreeOf, ReadingOf, ofTree, ofBlank, canonicalTree, canonicalBytes, Faithful}
 use Rattle.grammar.proofs.Scanned.{length-tokens}
 use Rattle.grammar.proofs.BlocksLawful.{blocks-lawful}
 use Rattle.grammar.proofs.CheckedTrees.{checked-tree}
@@ -57,7 +57,7 @@ read-of text t (ofBlank b) =
     let (ps, c, q) = blank-checked text b in
     (record { tokens = ps; tree = blankRule }, read-as text ps c blankRule (rw q of-none), refl)
 
--- A text reads as one thing at most: any two trees of it are the same.
+-- A text reads as one thing at most, ..
 pub same-reading : (text : Bytes) (t u : Tree) → ReadingOf text t → ReadingOf text u → t ≡ u
 same-reading text t u h g =
     let (r, e, p) = read-of text t h in
@@ -65,6 +65,10 @@ same-reading text t u h g =
     let w : passed r ≡ passed s = sym e ∙ f in
     let v : r ≡ s = cc in
     sym p ∙ ap (λ x. x .tree) v ∙ q
+
+-- .. so any two trees of it are the same.
+pub same-tree : (text : Bytes) (t u : Tree) → TreeOf text t → TreeOf text u → t ≡ u
+same-tree text t u h g = same-reading text t u (ofTree h) (ofTree g)
 
 -- Every block of it has allowed declarations and operators that meet the four conditions.
 pub reading-lawful : (text : Bytes) (t : Tree) → ReadingOf text t → BlocksLawful startTable t

@@ -1,6 +1,7 @@
--- Document 02, §7, of the calls: both services read a blank text and write nothing, and refuse a text with an empty inside with 11.
-use mathlib.Core.Path.{_≡_, subst, _∙_}
-use mathlib.Core.Logic.{inl}
+-- Document 02, §7, of the calls: both services read a blank text and write nothing, do so of no other text, and refuse a text with an empty
+-- inside with 11.
+use mathlib.Core.Path.{_≡_, sym, ap, subst, _∙_}
+use mathlib.Core.Logic.{_↔_, inl}
 use mathlib.Core.List.{List, []}
 use mathlib.Core.Option.{some}
 use Prim.Native.Nat.{ℕ, _*_}
@@ -15,25 +16,32 @@ use Rattle.grammar.specs.Nodes.{count, wordsPerNode}
 use Rattle.grammar.specs.Canonical.{canonical, canonicalText, joinTokens}
 use Rattle.grammar.specs.Blank.{Blank, blankRule}
 use Rattle.grammar.specs.Fault.{Past}
-use Rattle.grammar.specs.Claim.{ofBlank}
-use Rattle.grammar.proofs.BlankRules.{empty-inside}
+use Rattle.grammar.specs.Claim.{ReadingOf, ofBlank}
+use Rattle.grammar.proofs.BlankRules.{blank-nodes, blank-canonical, empty-inside}
 use Rattle.reader.specs.declared.Answer.{Answer}
 use Rattle.reader.specs.Answered.{written, Reads, Canonicalizes}
 use Rattle.reader.specs.Demands.{Right}
 use Rattle.reader.proofs.ReadCalls as ReadCalls
 use Rattle.reader.proofs.CanonicalCalls as CanonicalCalls
 
--- Of either service: a blank rule fits, and what holds of the buffer then says that nothing was written.
+-- Of either service: a blank rule fits, what holds of the buffer then says that nothing was written, and of no other text does it say so.
 module _
     {own : ℕ} {Fits : Tree → Type 0} {Holds : List ℕ → ℕ → Tree → Type 0} {text : Bytes} {B B′ : List ℕ} {a : Answer}
     (right : Right isReserved own Fits Holds text B B′ a) where
   blank-call :
-      Blank text → Fits blankRule → ((c : ℕ) → Holds B′ c blankRule → (c ≡ 0) × (B′ ≡ B)) → (a ≡ written 0) × (B′ ≡ B)
-  blank-call b fits empty =
-      let read = right .answers .success .1 (blankRule, ofBlank b, fits) in
-      let place = right .answers .placeZero (inl read) in
-      let (none, same) = empty (a .count) (right .held read blankRule (ofBlank b)) in
-      ((λ i. record { number = read i; offset = place i; count = none i }), same)
+      Fits blankRule → (Holds B′ (a .count) blankRule → (a .count ≡ 0) × (B′ ≡ B))
+      → ((t : Tree) → ReadingOf text t → Holds B′ (a .count) t → a .count ≡ 0 → Blank text) → Blank text ↔ ((a ≡ written 0) × (B′ ≡ B))
+  blank-call fits empty only = (
+    λ b.
+        let read = right .answers .success .1 (blankRule, ofBlank b, fits) in
+        let place = right .answers .placeZero (inl read) in
+        let (none, same) = empty (right .held read blankRule (ofBlank b)) in
+        ((λ i. record { number = read i; offset = place i; count = none i }), same),
+    λ (e, same).
+        let read : a .number ≡ 0 = ap (λ x. x .number) e in
+        let (t, reading, f) = right .answers .success .0 read in
+        only t reading (right .held read t reading) (ap (λ x. x .count) e),
+  )
 
   empty-call :
       (ts : List Token) → Past text ts → (s : Span) → SpanOf ts s → (i : ℕ) → s .opener ≡ some i → s .contents ≡ [] → a .number ≡ 11
@@ -41,18 +49,20 @@ module _
       let (x, us, p, own, first) = empty-inside text ts past s among i opened none in
       right .answers .eleven p .1 (x, us, own, first) .0
 
-pub blank-read : (text : Bytes) → Blank text → (N N′ : List ℕ) (a : Answer) → Reads text N N′ a → (a ≡ written 0) × (N′ ≡ N)
+pub blank-read : (text : Bytes) (N N′ : List ℕ) (a : Answer) → Reads text N N′ a → Blank text ↔ ((a ≡ written 0) × (N′ ≡ N))
 unfolding count
-blank-read text b N N′ a h =
-    blank-call (ReadCalls.right text N N′ a h) b (omega arith)
-    (λ c held. (held .counted, subst (λ k. drop (wordsPerNode * k) N′ ≡ drop (wordsPerNode * k) N) (held .counted) (held .behind)))
+blank-read text N N′ a h =
+    blank-call (ReadCalls.right text N N′ a h) (omega arith)
+    (λ held. (held .counted, subst (λ k. drop (wordsPerNode * k) N′ ≡ drop (wordsPerNode * k) N) (held .counted) (held .behind)))
+    (λ t reading held none. blank-nodes text t reading (sym (held .counted) ∙ none))
 
 pub blank-canonicalized :
-    (text : Bytes) → Blank text → (B B′ : List ℕ) (a : Answer) → Canonicalizes text B B′ a → (a ≡ written 0) × (B′ ≡ B)
+    (text : Bytes) (B B′ : List ℕ) (a : Answer) → Canonicalizes text B B′ a → Blank text ↔ ((a ≡ written 0) × (B′ ≡ B))
 unfolding canonical canonicalText flat joinTokens
-blank-canonicalized text b B B′ a h =
-    blank-call (CanonicalCalls.right text B B′ a h) b (omega arith, omega arith)
-    (λ c held. (held .counted, subst (λ k. drop k B′ ≡ drop k B) (held .counted) (held .behind)))
+blank-canonicalized text B B′ a h =
+    blank-call (CanonicalCalls.right text B B′ a h) (omega arith, omega arith)
+    (λ held. (held .counted, subst (λ k. drop k B′ ≡ drop k B) (held .counted) (held .behind)))
+    (λ t reading held none. blank-canonical text t reading (sym (held .counted) ∙ none))
 
 pub empty-inside-read :
     (text : Bytes) (ts : List Token) → Past text ts → (s : Span) → SpanOf ts s → (i : ℕ) → s .opener ≡ some i → s .contents ≡ []

@@ -94,7 +94,7 @@ canonicalize-settled = Settled.canonicalize-settled
 
 -- Demand 3. Any two trees of one text are the same tree, whatever overloading the table check let through, ..
 pub one-tree : (text : Bytes) (t u : Tree) → TreeOf text t → TreeOf text u → t ≡ u
-one-tree = BlankRules.same-tree
+one-tree = Rules.same-tree
 
 -- .. and that is what a text with at least one token reads as.
 pub reading-is-tree : (text : Bytes) (x : Token) (ts : List Token) → Past text (x ∷ ts) → (t : Tree) → ReadingOf text t ↔ TreeOf text t
@@ -143,12 +143,12 @@ pub reserved-roles :
 reserved-roles = ReservedRoles.reserved-roles
 
 -- Document 02, §7: "A text that is empty or all blanks, past check 1, is now read: no nodes, and an empty tidy text". With any table and any
--- buffer, of length 0 too; no word and no byte changes.
-pub blank-read : (text : Bytes) → Blank text → (N N′ : List ℕ) (a : Answer) → Reads text N N′ a → (a ≡ written 0) × (N′ ≡ N)
+-- buffer, of length 0 too; no word and no byte changes. Of no other text is nothing written and read answered.
+pub blank-read : (text : Bytes) (N N′ : List ℕ) (a : Answer) → Reads text N N′ a → Blank text ↔ ((a ≡ written 0) × (N′ ≡ N))
 blank-read = BlankCalls.blank-read
 
 pub blank-canonicalized :
-    (text : Bytes) → Blank text → (B B′ : List ℕ) (a : Answer) → Canonicalizes text B B′ a → (a ≡ written 0) × (B′ ≡ B)
+    (text : Bytes) (B B′ : List ℕ) (a : Answer) → Canonicalizes text B B′ a → Blank text ↔ ((a ≡ written 0) × (B′ ≡ B))
 blank-canonicalized = BlankCalls.blank-canonicalized
 
 -- "for the rest the reading is fixed here": a text past checks 1 to 10 without a token is a blank one.

@@ -1,7 +1,7 @@
 -- What reading answers after checks 2 to 11 and 17: a refusal, nothing of a blank text, 12, or the words of the tree.
-use mathlib.Core.Path.{_≡_, refl, sym, ap, ap₂, subst, _∙_}
+use mathlib.Core.Path.{_≡_, refl, sym, ap, ap₂, _∙_}
 use mathlib.Core.List.{List, [], _∷_}
-use Prim.Native.Nat.{ℕ, suc, _+_, _*_, _≤_, _<_}
+use Prim.Native.Nat.{ℕ, suc, _*_, _≤_, _<_}
 use native.Mathlib.Omega.{arith}
 use lib.ListN.{length}
 use borrow.Author.Tests.{le-leb, lt-leb}
@@ -10,7 +10,6 @@ use Rattle.grammar.specs.Bytes.{Bytes}
 use Rattle.grammar.specs.Outcome.{Outcome, refused, passed}
 use Rattle.grammar.specs.Nodes.{count, words, wordsPerNode}
 use Rattle.grammar.specs.Scan.{Placed}
-use Rattle.grammar.specs.Tree.{flat}
 use Rattle.grammar.specs.Blank.{blankRule}
 use Rattle.grammar.specs.Answer as G
 use Rattle.grammar.specs.Answer.{Reading, tokensOf, offsetOf, readText, readInto, readingWords, rejection, success}

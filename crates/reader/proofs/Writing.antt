@@ -1,5 +1,5 @@
 -- What canonicalizing answers after checks 2 to 11 and 17: a refusal, nothing of a blank text, 13, or the canonical text.
-use mathlib.Core.Path.{_≡_, refl, sym, ap, ap₂, _∙_}
+use mathlib.Core.Path.{_≡_, sym, ap, ap₂, _∙_}
 use mathlib.Core.Bool.{true, false, _&&_}
 use mathlib.Core.List.{List}
 use Prim.Native.Nat.{ℕ, _≤_, _<_}
