@@ -4,7 +4,6 @@ use mathlib.Core.Path.{_≡_, refl, sym, ap, _∙_}
 use mathlib.Core.Logic.{_↔_}
 use mathlib.Core.Bool.{true, true≢false}
 use mathlib.Core.List.{List, [], _∷_}
-use mathlib.Core.Option.{some}
 use Prim.Native.Nat.{ℕ}
 use native.Mathlib.Omega.{arith}
 use lib.ListN.{length, length-append}
@@ -13,7 +12,7 @@ use Rattle.grammar.specs.Token.{Token, symbol}
 use Rattle.grammar.specs.Operator.{Table}
 use Rattle.grammar.specs.Declaration.{startTable}
 use Rattle.grammar.specs.Span.{single}
-use Rattle.grammar.specs.Spans.{Span, SpanOf}
+use Rattle.grammar.specs.Spans.{Span}
 use Rattle.grammar.specs.SpanTree.{SpanTree, missing, operand, apply, yield, present}
 use Rattle.grammar.specs.Tree.{Tree, nothing, leaf, bracket, block, node, flat, spanTree, InnerOk}
 use Rattle.grammar.specs.Blank.{Blank, blankRule}
@@ -21,7 +20,7 @@ use Rattle.grammar.specs.Nodes.{count}
 use Rattle.grammar.specs.Canonical.{canonical, canonicalText, joinTokens}
 use Rattle.grammar.specs.Abstract.{absent, abstract, Agree}
 use Rattle.grammar.specs.Fault.{Past}
-use Rattle.grammar.specs.Claim.{HasNoTree, FirstWithout, TreeOf, ReadingOf, ofTree, ofBlank, canonicalBytes}
+use Rattle.grammar.specs.Claim.{HasNoTree, FirstWithout, EmptyInside, TreeOf, ReadingOf, ofTree, ofBlank, canonicalBytes}
 use Rattle.grammar.proofs.Scanned.{spells-unique}
 use Rattle.grammar.proofs.Logic.{impossible}
 use Rattle.grammar.proofs.Present.{counted}
@@ -88,10 +87,10 @@ empty-treeless s none t h = go t (h .yields ∙ none) (h .there)
 
 -- So a text with one is refused with 11.
 pub empty-inside :
-    (text : Bytes) (ts : List Token) → Past text ts → (s : Span) → SpanOf ts s → (i : ℕ) → s .opener ≡ some i → s .contents ≡ []
-    → (x : Token) × (us : List Token) × (p : ℕ) × Past text (x ∷ us) × FirstWithout text (x ∷ us) p
-empty-inside text ts past s among i opened none =
-    let (x, us, q) = inside-some text ts past s among i opened in
-    let own : Past text (x ∷ us) = rw q at past in
-    let (p, first) = treeless-exactly text x us own .0 (span-without text (x ∷ us) own s (rw q at among) (empty-treeless s none)) in
-    (x, us, p, own, first)
+    (text : Bytes) → EmptyInside text → (x : Token) × (us : List Token) × (p : ℕ) × Past text (x ∷ us) × FirstWithout text (x ∷ us) p
+empty-inside text e =
+    let (x, us, q) = inside-some text (e .tokens) (e .past) (e .span) (e .among) (e .opener) (e .opened) in
+    let past : Past text (x ∷ us) = rw q at (e .past) in
+    let never = span-without text (x ∷ us) past (e .span) (rw q at (e .among)) (empty-treeless (e .span) (e .empty)) in
+    let (p, first) = treeless-exactly text x us past .0 never in
+    (x, us, p, past, first)

@@ -15,7 +15,7 @@ use Rattle.grammar.specs.Blank.{Blank, blankRule}
 use Rattle.grammar.specs.Canonical.{canonical, canonicalText, NoSpare}
 use Rattle.grammar.specs.Operator.{Conditions, Table}
 use Rattle.grammar.specs.Spans.{startOf, Span, SpanOf}
-use Rattle.grammar.specs.Fault.{PastReserving}
+use Rattle.grammar.specs.Fault.{PastReserving, Past}
 use Rattle.grammar.specs.Abstract.{Agree}
 
 -- What each node stands for, in the order of the table: the characters of a name or number, the operator; none for a bracket or block.
@@ -66,6 +66,16 @@ pub record FirstWithout (text : Bytes) (ts : List Token) (p : ℕ) : Type 0 wher
   pub treeless : HasNoTree span
   pub first : (s : Span) → SpanOf ts s → HasNoTree s → startOf (span .opener) ≤ startOf (s .opener)
   pub place : SpanPlace text ts (span .opener) p
+
+-- "An empty bracket pair or block body" in a text past checks 1 to 10 (02, §7).
+pub record EmptyInside (text : Bytes) : Type 0 where
+  pub tokens : List Token
+  pub past : Past text tokens
+  pub span : Span
+  pub among : SpanOf tokens span
+  pub opener : ℕ
+  pub opened : span .opener ≡ some opener
+  pub empty : span .contents ≡ []
 
 -- `t` is a tree of the text, which is past checks 1 to 10 and, with the operators `reserved` reserved, 17.
 pub record TreeReserving (reserved : Bytes → Bool) (text : Bytes) (t : Tree) : Type 0 where

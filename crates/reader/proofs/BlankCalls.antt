@@ -2,21 +2,17 @@
 -- inside with 11.
 use mathlib.Core.Path.{_≡_, sym, ap, subst, _∙_}
 use mathlib.Core.Logic.{_↔_, inl}
-use mathlib.Core.List.{List, []}
-use mathlib.Core.Option.{some}
+use mathlib.Core.List.{List}
 use Prim.Native.Nat.{ℕ, _*_}
 use native.Mathlib.Omega.{arith}
 use lib.ListN.{drop}
 use Rattle.grammar.specs.Bytes.{Bytes}
-use Rattle.grammar.specs.Token.{Token}
 use Rattle.grammar.specs.Declaration.{isReserved}
-use Rattle.grammar.specs.Spans.{Span, SpanOf}
 use Rattle.grammar.specs.Tree.{Tree, flat}
 use Rattle.grammar.specs.Nodes.{count, wordsPerNode}
 use Rattle.grammar.specs.Canonical.{canonical, canonicalText, joinTokens}
 use Rattle.grammar.specs.Blank.{Blank, blankRule}
-use Rattle.grammar.specs.Fault.{Past}
-use Rattle.grammar.specs.Claim.{ReadingOf, ofBlank}
+use Rattle.grammar.specs.Claim.{EmptyInside, ReadingOf, ofBlank}
 use Rattle.grammar.proofs.BlankRules.{blank-nodes, blank-canonical, empty-inside}
 use Rattle.reader.specs.declared.Answer.{Answer}
 use Rattle.reader.specs.Answered.{written, Reads, Canonicalizes}
@@ -43,11 +39,10 @@ module _
         only t reading (right .held read t reading) (ap (λ x. x .count) e),
   )
 
-  empty-call :
-      (ts : List Token) → Past text ts → (s : Span) → SpanOf ts s → (i : ℕ) → s .opener ≡ some i → s .contents ≡ [] → a .number ≡ 11
-  empty-call ts past s among i opened none =
-      let (x, us, p, own, first) = empty-inside text ts past s among i opened none in
-      right .answers .eleven p .1 (x, us, own, first) .0
+  empty-call : EmptyInside text → a .number ≡ 11
+  empty-call e =
+      let (x, us, p, past, first) = empty-inside text e in
+      right .answers .eleven p .1 (x, us, past, first) .0
 
 pub blank-read : (text : Bytes) (N N′ : List ℕ) (a : Answer) → Reads text N N′ a → Blank text ↔ ((a ≡ written 0) × (N′ ≡ N))
 unfolding count
@@ -64,13 +59,9 @@ blank-canonicalized text B B′ a h =
     (λ held. (held .counted, subst (λ k. drop k B′ ≡ drop k B) (held .counted) (held .behind)))
     (λ t reading held none. blank-canonical text t reading (sym (held .counted) ∙ none))
 
-pub empty-inside-read :
-    (text : Bytes) (ts : List Token) → Past text ts → (s : Span) → SpanOf ts s → (i : ℕ) → s .opener ≡ some i → s .contents ≡ []
-    → (N N′ : List ℕ) (a : Answer) → Reads text N N′ a → a .number ≡ 11
-empty-inside-read text ts past s among i opened none N N′ a h = empty-call (ReadCalls.right text N N′ a h) ts past s among i opened none
+pub empty-inside-read : (text : Bytes) → EmptyInside text → (N N′ : List ℕ) (a : Answer) → Reads text N N′ a → a .number ≡ 11
+empty-inside-read text e N N′ a h = empty-call (ReadCalls.right text N N′ a h) e
 
 pub empty-inside-canonicalized :
-    (text : Bytes) (ts : List Token) → Past text ts → (s : Span) → SpanOf ts s → (i : ℕ) → s .opener ≡ some i → s .contents ≡ []
-    → (B B′ : List ℕ) (a : Answer) → Canonicalizes text B B′ a → a .number ≡ 11
-empty-inside-canonicalized text ts past s among i opened none B B′ a h =
-    empty-call (CanonicalCalls.right text B B′ a h) ts past s among i opened none
+    (text : Bytes) → EmptyInside text → (B B′ : List ℕ) (a : Answer) → Canonicalizes text B B′ a → a .number ≡ 11
+empty-inside-canonicalized text e B B′ a h = empty-call (CanonicalCalls.right text B B′ a h) e

@@ -9,7 +9,6 @@ use mathlib.Core.Path.{_≡_}
 use mathlib.Core.Logic.{_↔_}
 use mathlib.Core.Bool.{true}
 use mathlib.Core.List.{List, [], _∷_}
-use mathlib.Core.Option.{some}
 use Prim.Native.Nat.{ℕ, _≤_}
 use lib.ListN.{length, take}
 use Rattle.grammar.specs.Bytes.{Bytes}
@@ -24,7 +23,7 @@ use Rattle.grammar.specs.Widest.{widest}
 use Rattle.grammar.specs.Abstract.{Agree}
 use Rattle.grammar.specs.Canonical.{strip, stripDeclaration}
 use Rattle.grammar.specs.Fault.{longestText, Fault, Past, noneReserved, Unreserved}
-use Rattle.grammar.specs.Claim.{BlocksLawful, FirstWithout, TreeOf, ReadingOf, canonicalTree, canonicalBytes, Faithful}
+use Rattle.grammar.specs.Claim.{BlocksLawful, FirstWithout, EmptyInside, TreeOf, ReadingOf, canonicalTree, canonicalBytes, Faithful}
 use Rattle.grammar.proofs.Numbers as Numbers
 use Rattle.grammar.proofs.StripDeclarations as StripDeclarations
 use Rattle.grammar.proofs.WidestRoot.{root-widest}
@@ -123,6 +122,32 @@ pub same-precedences :
     → (value d ≡ value e) ↔ (stripDeclaration (declares f a d m) ≡ stripDeclaration (declares f a e m))
 same-precedences = StripDeclarations.same-precedences
 
+-- Document 02, §7: "A text that is empty or all blanks, past check 1, is now read: no nodes, and an empty tidy text". With any table and any
+-- buffer, of length 0 too; no word and no byte changes. No other text is read with nothing written.
+pub blank-read : (text : Bytes) (N N′ : List ℕ) (a : Answer) → Reads text N N′ a → Blank text ↔ ((a ≡ written 0) × (N′ ≡ N))
+blank-read = BlankCalls.blank-read
+
+pub blank-canonicalized :
+    (text : Bytes) (B B′ : List ℕ) (a : Answer) → Canonicalizes text B B′ a → Blank text ↔ ((a ≡ written 0) × (B′ ≡ B))
+blank-canonicalized = BlankCalls.blank-canonicalized
+
+-- "for the rest the reading is fixed here": a text past checks 1 to 10 without a token is a blank one.
+pub blank-past : (text : Bytes) → Blank text ↔ Past text []
+blank-past = BlankTexts.blank-past
+
+-- "blank rules agree with each other and with no other rule."
+pub blank-agreement :
+    (text other : Bytes) (t u : Tree) → ReadingOf text t → ReadingOf other u → Blank text → Agree t u ↔ Blank other
+blank-agreement = BlankRules.blank-agreement
+
+-- "An empty bracket pair or block body is refused with 11 as before", where nothing comes before 11.
+pub empty-inside-read : (text : Bytes) → EmptyInside text → (N N′ : List ℕ) (a : Answer) → Reads text N N′ a → a .number ≡ 11
+empty-inside-read = BlankCalls.empty-inside-read
+
+pub empty-inside-canonicalized :
+    (text : Bytes) → EmptyInside text → (B B′ : List ℕ) (a : Answer) → Canonicalizes text B B′ a → a .number ≡ 11
+empty-inside-canonicalized = BlankCalls.empty-inside-canonicalized
+
 -- Document 02, §9: "Every reading made before without such a block is still the reading". Where no declaration of the text names a reserved
 -- operator, the answer and the buffer are those of a reader without the rule: all that is asked of one where none is reserved holds of the
 -- call, and nothing else meets it.
@@ -141,35 +166,6 @@ pub reserved-roles :
     (m : Bytes) → isReserved m ≡ true → (f : Fixity) (text : Bytes) (ts : List Token) → Past text ts → (s : Span) → SpanOf ts s
     → role (s .table) m f ≡ role startTable m f
 reserved-roles = ReservedRoles.reserved-roles
-
--- Document 02, §7: "A text that is empty or all blanks, past check 1, is now read: no nodes, and an empty tidy text". With any table and any
--- buffer, of length 0 too; no word and no byte changes. Of no other text is nothing written and read answered.
-pub blank-read : (text : Bytes) (N N′ : List ℕ) (a : Answer) → Reads text N N′ a → Blank text ↔ ((a ≡ written 0) × (N′ ≡ N))
-blank-read = BlankCalls.blank-read
-
-pub blank-canonicalized :
-    (text : Bytes) (B B′ : List ℕ) (a : Answer) → Canonicalizes text B B′ a → Blank text ↔ ((a ≡ written 0) × (B′ ≡ B))
-blank-canonicalized = BlankCalls.blank-canonicalized
-
--- "for the rest the reading is fixed here": a text past checks 1 to 10 without a token is a blank one.
-pub blank-past : (text : Bytes) → Blank text ↔ Past text []
-blank-past = BlankTexts.blank-past
-
--- "blank rules agree with each other and with no other rule."
-pub blank-agreement :
-    (text other : Bytes) (t u : Tree) → ReadingOf text t → ReadingOf other u → Blank text → Agree t u ↔ Blank other
-blank-agreement = BlankRules.blank-agreement
-
--- "An empty bracket pair or block body is refused with 11 as before", unless something else comes before 11.
-pub empty-inside-read :
-    (text : Bytes) (ts : List Token) → Past text ts → (s : Span) → SpanOf ts s → (i : ℕ) → s .opener ≡ some i → s .contents ≡ []
-    → (N N′ : List ℕ) (a : Answer) → Reads text N N′ a → a .number ≡ 11
-empty-inside-read = BlankCalls.empty-inside-read
-
-pub empty-inside-canonicalized :
-    (text : Bytes) (ts : List Token) → Past text ts → (s : Span) → SpanOf ts s → (i : ℕ) → s .opener ≡ some i → s .contents ≡ []
-    → (B B′ : List ℕ) (a : Answer) → Canonicalizes text B B′ a → a .number ≡ 11
-empty-inside-canonicalized = BlankCalls.empty-inside-canonicalized
 
 -- That the root has the widest precedence follows and is not asked besides.
 pub widest-root : (T : Table) → Conditions T → (s : SpanTree) → Admitted T s → rootPrecedence (root T s) ≡ widest T (yield s)
