@@ -18,9 +18,8 @@ ghost use Rattle.checks.specs.Checking.{Checkable, Tokenized, Matched, C
 // Refusal 11.
 pub const NO_TREE: u8 = 11;
 
-// Whether a text is blank; or how many tokens and nodes there are, and the root; or the number and the place of a refusal.
+// How many tokens and nodes there are, and the root; the number and the place of a refusal; or that the text is blank.
 pub enum Checked {
-    Blank,
     Passed {
         tokens: usize,
         nodes: usize,
@@ -30,6 +29,7 @@ pub enum Checked {
         number: u8,
         offset: usize,
     },
+    Blank,
 }
 
 // The offset of token number `i`; behind the last token stands the end of the text.
