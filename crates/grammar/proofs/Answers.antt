@@ -120,7 +120,7 @@ words-fit :
     (text : Bytes) (r : Reading) (b : List ℕ) → Operated (r .tree) → wordsPerNode * count (r .tree) ≤ length b
     → length (readingWords text r) ≤ length b
 unfolding readingWords
-words-fit text r b q h = rw (words-length (offsetOf text (r .tokens)) (r .tree) 0 0 q) h
+words-fit text r b q h = rw (words-length (offsetOf text (r .tokens)) startTable (r .tree) 0 0 q) h
 
 readInto-proper :
     (text : Bytes) (b : List ℕ) (o : Outcome Reading) → Numbered OfChecks o → ((r : Reading) → o ≡ passed r → Operated (r .tree))

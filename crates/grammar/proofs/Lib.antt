@@ -58,6 +58,8 @@ pub mod Rules
 pub mod BlankRules
 pub mod Answers
 pub mod BareNames
+pub mod SpanPlaces
 pub mod Subtrees
 pub mod NodeCharacters
 pub mod Decoding
+pub mod NodePrecedences

@@ -9,10 +9,10 @@ use native.Mathlib.Nat.{sub-zero}
 use lib.ListN.{length, take, drop, getD, List·getD-map, List·getD-eq-default}
 use lib.Seq.{take-append-seam}
 use Rattle.grammar.specs.Bytes.{Bytes}
-use Rattle.grammar.specs.Token.{structure, symbol, keywordLet, keywordIn, spelling, Atom, characters}
+use Rattle.grammar.specs.Token.{Token, structure, symbol, keywordLet, keywordIn, spelling, Atom, characters}
 use Rattle.grammar.specs.Operator.{Fixity, Prefix, Infix, Postfix}
 use Rattle.grammar.specs.Scan.{Placed}
-use Rattle.grammar.specs.Declaration.{Declaration, allTokens}
+use Rattle.grammar.specs.Declaration.{Declaration, startTable, allTokens}
 use Rattle.grammar.specs.Tree.{Tree, nothing, leaf, bracket, block, node, flat}
 use Rattle.grammar.specs.Nodes.{charactersOffset, count, words}
 use Rattle.grammar.specs.Answer.{PastChecks, tokensOf, offsetOf}
@@ -125,33 +125,37 @@ module _ (text : Bytes) (o : ℕ → ℕ) where
       whole = ap₂ take size (p .written) ∙ take-append-seam (p .bytes) (p .rest)
 
   module _ (ws : List ℕ) where
-    node-part : {k kind first second offset size : ℕ} → Node ws k kind first second offset size → partOf text ws k ≡ take size (drop offset text)
+    node-part :
+        {k kind first second offset size precedence : ℕ} → Node ws k kind first second offset size precedence
+        → partOf text ws k ≡ take size (drop offset text)
     node-part h = ap₂ (λ n p. take n (drop p text)) (h .has-size) (h .has-offset)
 
     operator-part :
-        (f : Fixity) (k a b offset size : ℕ) → OperatorNode ws k f a b offset size → partOf text ws k ≡ take size (drop offset text)
-    operator-part Prefix k a b offset size h = node-part h
-    operator-part Infix k a b offset size h = node-part h
-    operator-part Postfix k a b offset size h = node-part h
+        (f : Fixity) (k a b offset size precedence : ℕ) → OperatorNode ws k f a b offset size precedence
+        → partOf text ws k ≡ take size (drop offset text)
+    operator-part Prefix k a b offset size precedence h = node-part h
+    operator-part Infix k a b offset size precedence h = node-part h
+    operator-part Postfix k a b offset size precedence h = node-part h
 
     -- The node of a subtree's root gives its part of the text.
-    pub root-gives : (t : Tree) (i n k : ℕ) → Subtree text o ws t i n → suc k ≡ n + count t → Gives t (partOf text ws k)
+    pub root-gives :
+        {ts : List Token} (t : Tree) (i n k : ℕ) → Subtree text ts o ws t i n → suc k ≡ n + count t → Gives t (partOf text ws k)
     unfolding flat characters charactersOffset
-    root-gives nothing i n k s e = tt
-    root-gives (leaf a) i n k s e =
-        node-part (leaf-node text o ws a i n s k e) ∙ characters-stand text a (o i) _ (s .stands .0 .written)
-    root-gives (bracket t) i n k s e = tt
-    root-gives (block ds t) i n k s e =
-        subst (FromLetToIn ds) (sym (node-part (block-node text o ws ds t i n s k e)))
-        (let-to-in ds i (declarations-stand text o ws ds t i n s))
-    root-gives (node l m r) i n k s e =
-        operator-part (form text o ws l m r i n s) k _ _ _ _ (operator-node text o ws l m r i n s k e)
-        ∙ characters-stand text (symbol m) (o (i + length (flat l))) _ (operator-stands text o ws l m r i n s .0 .written)
+    root-gives {ts} nothing i n k s e = tt
+    root-gives {ts} (leaf a) i n k s e =
+        node-part (leaf-node text ts o ws a i n s k e) ∙ characters-stand text a (o i) _ (s .stands .0 .written)
+    root-gives {ts} (bracket t) i n k s e = tt
+    root-gives {ts} (block ds t) i n k s e =
+        subst (FromLetToIn ds) (sym (node-part (block-node text ts o ws ds t i n s k e)))
+        (let-to-in ds i (declarations-stand text ts o ws ds t i n s))
+    root-gives {ts} (node l m r) i n k s e =
+        operator-part (form text ts o ws l m r i n s) k _ _ _ _ _ (operator-node text ts o ws l m r i n s k e)
+        ∙ characters-stand text (symbol m) (o (i + length (flat l))) _ (operator-stands text ts o ws l m r i n s .0 .written)
 
 -- A table that begins with the words of a text's tree.
 module _ (text : Bytes) (ps : List Placed) (h : PastChecks text ps) (t : Tree) (is : IsReading (tokensOf ps) t) (v : List ℕ) where
   abbrev table : List ℕ
-  table = words (offsetOf text ps) t 0 0 ++ v
+  table = words (offsetOf text ps) startTable t 0 0 ++ v
 
   table-gives : (k : ℕ) → Gives (getD (subtrees t) k nothing) (partOf text table k)
   table-gives k = below k (count t) among beyond
@@ -170,7 +174,7 @@ module _ (text : Bytes) (ps : List Placed) (h : PastChecks text ps) (t : Tree) (
 
   -- Offset and length give the characters of a name or number, and the operator, as they stand in the text.
   pub node-characters :
-      (k : ℕ) (c : Bytes) → getD (nodeNames t) k none ≡ some c → partOf text (words (offsetOf text ps) t 0 0 ++ v) k ≡ c
+      (k : ℕ) (c : Bytes) → getD (nodeNames t) k none ≡ some c → partOf text (words (offsetOf text ps) startTable t 0 0 ++ v) k ≡ c
   unfolding nameOf
   node-characters k c f =
       gives-name (getD (subtrees t) k nothing) _ c (table-gives k)
@@ -179,7 +183,7 @@ module _ (text : Bytes) (ps : List Placed) (h : PastChecks text ps) (t : Tree) (
   -- Of a block they give the text from `let` to `in`.
   pub node-blocks :
       (k : ℕ) (ds : List Declaration) → getD (nodeBlocks t) k none ≡ some ds
-      → FromLetToIn ds (partOf text (words (offsetOf text ps) t 0 0 ++ v) k)
+      → FromLetToIn ds (partOf text (words (offsetOf text ps) startTable t 0 0 ++ v) k)
   unfolding blockOf
   node-blocks k ds f =
       gives-block (getD (subtrees t) k nothing) _ ds (table-gives k)

@@ -1,4 +1,4 @@
--- Every operator of a tree has an operand, so it has a fixity, and its node has five words.
+-- Every operator of a tree has an operand, so it has a fixity, and its node has six words.
 use mathlib.Core.Path.{_≡_, refl}
 use mathlib.Core.Option.{some}
 use Prim.Native.Nat.{ℕ, suc, _+_, _*_}
@@ -28,20 +28,21 @@ operated T (node l m r) a i =
     let c = admitting-role T (spanTree l) m (spanTree r) a in
     (operated T l (a .0) (i .0), operated T r (a .1) (i .1), (c .form, c .formed))
 
-operator-length : (f : Fixity) (l r o s : ℕ) → length (operatorWords (some f) l r o s) ≡ wordsPerNode
+operator-length : (f : Fixity) (l r o s p : ℕ) → length (operatorWords (some f) l r o s p) ≡ wordsPerNode
 unfolding operatorWords nodeWords
-operator-length Prefix l r o s = refl
-operator-length Infix l r o s = refl
-operator-length Postfix l r o s = refl
+operator-length Prefix l r o s p = refl
+operator-length Infix l r o s p = refl
+operator-length Postfix l r o s p = refl
 
--- A tree has five words for each of its nodes.
-pub words-length : (s : ℕ → ℕ) (t : Tree) (i n : ℕ) → Operated t → length (words s t i n) ≡ wordsPerNode * count t
+-- A tree has six words for each of its nodes.
+pub words-length : (s : ℕ → ℕ) (T : Table) (t : Tree) (i n : ℕ) → Operated t → length (words s T t i n) ≡ wordsPerNode * count t
 unfolding words count nodeWords
-words-length s nothing i n h = refl
-words-length s (leaf a) i n h = refl
-words-length s (bracket t) i n h = simp length-append (omega (arith, words-length s t (suc i) n h))
-words-length s (block ds t) i n h = simp length-append (omega (arith, words-length s t (suc (suc (i + length (allTokens ds)))) n h))
-words-length s (node l m r) i n h =
+words-length s T nothing i n h = refl
+words-length s T (leaf a) i n h = refl
+words-length s T (bracket t) i n h = simp length-append (omega (arith, words-length s T t (suc i) n h))
+words-length s T (block ds t) i n h =
+    simp length-append (omega (arith, words-length s (declareAll T ds) t (suc (suc (i + length (allTokens ds)))) n h))
+words-length s T (node l m r) i n h =
     rw (h .2 .1)
     (simp (length-append, operator-length)
-    (omega (arith, words-length s l i n (h .0), words-length s r (suc (i + length (flat l))) (n + count l) (h .1))))
+    (omega (arith, words-length s T l i n (h .0), words-length s T r (suc (i + length (flat l))) (n + count l) (h .1))))

@@ -7,17 +7,18 @@ use native.Mathlib.Omega.{arith}
 use lib.ListN.{length, length-append}
 use Rattle.grammar.specs.Bytes.{Bytes}
 use Rattle.grammar.specs.Token.{Atom, characters}
-use Rattle.grammar.specs.Declaration.{Declaration, allTokens}
+use Rattle.grammar.specs.Operator.{Table}
+use Rattle.grammar.specs.Declaration.{Declaration, declareAll, allTokens}
 use Rattle.grammar.specs.SpanTree.{fixity}
 use Rattle.grammar.specs.Tree.{Tree, nothing, leaf, bracket, block, node, flat, spanTree}
-use Rattle.grammar.specs.Nodes.{leafKind, operatorWords, charactersOffset, count, nodeWords, words}
+use Rattle.grammar.specs.Nodes.{bracketKind, blockKind, leafKind, operatorWords, precedenceOver, charactersOffset, count, nodeWords, words}
 
 -- How many tokens a tree has.
 leaf-size : (a : Atom) → length (flat (leaf a)) ≡ 1
 unfolding flat
 leaf-size a = refl
 
-bracket-size : (t : Tree) → length (flat (bracket t)) ≡ length (flat t) + 2
+pub bracket-size : (t : Tree) → length (flat (bracket t)) ≡ length (flat t) + 2
 unfolding flat
 bracket-size t = simp length-append (omega arith)
 
@@ -25,30 +26,35 @@ pub block-size : (ds : List Declaration) (t : Tree) → length (flat (block ds t
 unfolding flat
 block-size ds t = simp length-append (omega arith)
 
-node-size : (l : Tree) (m : Bytes) (r : Tree) → length (flat (node l m r)) ≡ length (flat l) + length (flat r) + 1
+pub node-size : (l : Tree) (m : Bytes) (r : Tree) → length (flat (node l m r)) ≡ length (flat l) + length (flat r) + 1
 unfolding flat
 node-size l m r = simp length-append (omega arith)
 
 -- The words of a tree depend only on the offsets of its own tokens.
 pub words-offsets :
-    (f g : ℕ → ℕ) (t : Tree) (i n : ℕ) → ((j : ℕ) → i ≤ j → j < i + length (flat t) → f j ≡ g j) → words f t i n ≡ words g t i n
+    (f g : ℕ → ℕ) (T : Table) (t : Tree) (i n : ℕ) → ((j : ℕ) → i ≤ j → j < i + length (flat t) → f j ≡ g j)
+    → words f T t i n ≡ words g T t i n
 unfolding words
-words-offsets f g nothing i n h = refl
-words-offsets f g (leaf t) i n h =
-    ap (λ a. nodeWords (leafKind t) 0 0 (charactersOffset t a) (length (characters t))) (h i (omega arith) (omega (arith, leaf-size t)))
-words-offsets f g (bracket t) i n h =
-    ap (λ w. w ++ nodeWords 6 (pred (n + count t)) 0 0 0)
-    (words-offsets f g t (suc i) n (λ j p q. h j (omega arith) (omega (arith, bracket-size t))))
-words-offsets f g (block ds t) i n h =
+words-offsets f g T nothing i n h = refl
+words-offsets f g T (leaf t) i n h =
+    ap (λ a. nodeWords (leafKind t) 0 0 (charactersOffset t a) (length (characters t)) 0) (h i (omega arith) (omega (arith, leaf-size t)))
+words-offsets f g T (bracket t) i n h =
+    ap (λ w. w ++ nodeWords bracketKind (pred (n + count t)) 0 0 0 0)
+    (words-offsets f g T t (suc i) n (λ j p q. h j (omega arith) (omega (arith, bracket-size t))))
+words-offsets f g T (block ds t) i n h =
     let e = block-size ds t in
     let k = i + length (allTokens ds) in
     rw (h i (omega arith) (omega arith), h (suc k) (omega arith) (omega arith))
-    (ap (λ w. w ++ nodeWords 7 (pred (n + count t)) 0 (g i) (g (suc k) + 2 - g i))
-    (words-offsets f g t (suc (suc k)) n (λ j p q. h j (omega arith) (omega arith))))
-words-offsets f g (node l m r) i n h =
+    (ap (λ w. w ++ nodeWords blockKind (pred (n + count t)) 0 (g i) (g (suc k) + 2 - g i) 0)
+    (words-offsets f g (declareAll T ds) t (suc (suc k)) n (λ j p q. h j (omega arith) (omega arith))))
+words-offsets f g T (node l m r) i n h =
     let e = node-size l m r in
     let k = i + length (flat l) in
     rw (h k (omega arith) (omega arith))
-    (ap₂ (λ v w. v ++ (w ++ operatorWords (fixity (spanTree l) (spanTree r)) (pred (n + count l)) (pred (n + count l + count r)) (g k) (length m)))
-    (words-offsets f g l i n (λ j p q. h j (omega arith) (omega arith)))
-    (words-offsets f g r (suc k) (n + count l) (λ j p q. h j (omega arith) (omega arith))))
+    (ap₂ (λ v w. v ++ (w ++ own)) (words-offsets f g T l i n (λ j p q. h j (omega arith) (omega arith)))
+    (words-offsets f g T r (suc k) (n + count l) (λ j p q. h j (omega arith) (omega arith))))
+  where
+    own : List ℕ
+    own =
+        operatorWords (fixity (spanTree l) (spanTree r)) (pred (n + count l)) (pred (n + count l + count r)) (g (i + length (flat l))) (length m)
+        (precedenceOver T l m r)

@@ -100,7 +100,7 @@ unfoldable pub over : List ℕ → List ℕ → List ℕ
 over w b = w ++ drop (length w) b
 
 unfoldable pub readingWords : Bytes → Reading → List ℕ
-readingWords text r = words (offsetOf text (r .tokens)) (r .tree) 0 0
+readingWords text r = words (offsetOf text (r .tokens)) startTable (r .tree) 0 0
 
 -- "12: reading: node table too short: 0"
 unfoldable pub readInto : Bytes → List ℕ → Outcome Reading → Result

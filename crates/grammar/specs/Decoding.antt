@@ -12,6 +12,7 @@ use Rattle.grammar.specs.Bytes.{Bytes}
 use Rattle.grammar.specs.Token.{Atom, symbol, number, quoted, Token}
 use Rattle.grammar.specs.Outcome.{Outcome, refused, passed}
 use Rattle.grammar.specs.Scan.{Placed, scan}
+use Rattle.grammar.specs.Operator.{Table}
 use Rattle.grammar.specs.Declaration.{Declaration, declarations}
 use Rattle.grammar.specs.Fault.{mostTokens}
 use Rattle.grammar.specs.Tree.{Tree, nothing, leaf}
@@ -31,7 +32,7 @@ use Rattle.grammar.specs.Nodes.{
 }
 use Rattle.grammar.specs.Answer.{tokensOf}
 
--- "five to a node: kind, first child, second child, offset, length": word number `j` of node number `k`, and the five by name.
+-- "kind, first child, second child, offset, length", and the precedence (02, §6): word number `j` of node number `k`, and the six by name.
 abbrev pub wordOf : List ℕ → ℕ → ℕ → ℕ
 wordOf ws k j = getD ws (k * wordsPerNode + j) 0
 
@@ -49,6 +50,9 @@ nodeOffset ws k = wordOf ws k 3
 
 abbrev pub nodeLength : List ℕ → ℕ → ℕ
 nodeLength ws k = wordOf ws k 4
+
+abbrev pub nodePrecedence : List ℕ → ℕ → ℕ
+nodePrecedence ws k = wordOf ws k 5
 
 -- "Offset and length give the name's characters, the number's digits or the operator's mark .. a block has `let` to `in` inclusive."
 abbrev pub partOf : Bytes → List ℕ → ℕ → Bytes
@@ -138,12 +142,13 @@ pub data Ordered (ws : List ℕ) (k : ℕ) : Type 0 where
   blockNode : nodeKind ws k ≡ blockKind → firstChild ws k < k → secondChild ws k ≡ 0 → Ordered ws k
 
 -- "so the words of a subtree stand together in the node table": the words of the tree that node `k` decodes to are those of the nodes that
--- end with `k`.
+-- end with `k`, under the operators in force in it.
 pub record Together (text : Bytes) (ws : List ℕ) (k : ℕ) : Type 0 where
   pub tree : Tree
   pub decodes : decode text ws k ≡ some tree
   pub fits : count tree ≤ suc k
   pub offsets : ℕ → ℕ
+  pub table : Table
   pub token : ℕ
   pub written :
-      take (wordsPerNode * count tree) (drop (wordsPerNode * (suc k - count tree)) ws) ≡ words offsets tree token (suc k - count tree)
+      take (wordsPerNode * count tree) (drop (wordsPerNode * (suc k - count tree)) ws) ≡ words offsets table tree token (suc k - count tree)

@@ -21,6 +21,7 @@ pub mod Abstract
 pub mod Canonical
 pub mod Answer
 pub mod Decoding
+pub mod NodePrecedence
 pub mod Claim
 pub mod Listing
 pub mod Coded

@@ -1,5 +1,6 @@
 -- Document 01: "A program reads standard input and prints the answer, the nodes (index, kind, first, second, offset, length),
--- then tidy length and text, or `refused N at P`; where only tidying is refused, that line follows the nodes."
+-- then tidy length and text, or `refused N at P`; where only tidying is refused, that line follows the nodes." 02, §6, of the sixth word of
+-- a node: "The listing prints it as the last field."
 use mathlib.Core.Bool.{true, false}
 use mathlib.Core.List.{List, [], _∷_, _++_}
 use Prim.Native.Nat.{ℕ, zero, suc, _+_, _*_, _/_, _%_}
@@ -33,7 +34,7 @@ unfoldable pub nodeLines : ℕ → ℕ → List ℕ → Bytes
 nodeLines zero i ws = []
 nodeLines (suc k) i ws =
     decimal i ++ 32 ∷ getD kindNames (getD ws 0 0) [] ++ field (getD ws 1 0) ++ field (getD ws 2 0) ++ field (getD ws 3 0)
-    ++ field (getD ws 4 0) ++ newline ++ nodeLines k (suc i) (drop wordsPerNode ws)
+    ++ field (getD ws 4 0) ++ field (getD ws 5 0) ++ newline ++ nodeLines k (suc i) (drop wordsPerNode ws)
 
 unfoldable pub refusalLine : Answer → Bytes
 refusalLine a = bytes "refused " ++ decimal (a .number) ++ bytes " at " ++ decimal (a .offset) ++ newline

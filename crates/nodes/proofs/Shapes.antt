@@ -1,6 +1,6 @@
 -- The children of a tree that stands in the rows are its parts as the builder's tests see them: what its root's token has as first and
 -- second part. The words of its last node go by the same tests.
-use mathlib.Core.Path.{_≡_, refl, sym, _∙_}
+use mathlib.Core.Path.{_≡_, refl, sym, ap, _∙_}
 use mathlib.Core.Bool.{Bool, true, false, _||_}
 use mathlib.Core.List.{List, _++_, append-assoc, append-nil}
 use mathlib.Core.Option.{some}
@@ -11,20 +11,23 @@ use native.Mathlib.Omega.{arith}
 use lib.ListN.{length, length-append}
 use Rattle.grammar.specs.Bytes.{Bytes}
 use Rattle.grammar.specs.Token.{Atom, atom, symbol, number, quoted}
-use Rattle.grammar.specs.Operator.{Fixity, Prefix, Infix, Postfix}
-use Rattle.grammar.specs.Declaration.{Declaration, allTokens}
-use Rattle.grammar.specs.SpanTree.{SpanTree, present, fixity, fixityBy}
+use Rattle.grammar.specs.Operator.{Fixity, Prefix, Infix, Postfix, Table, role}
+use Rattle.grammar.specs.Declaration.{Declaration, declareAll, allTokens}
+use Rattle.grammar.specs.SpanTree.{SpanTree, present, fixity, fixityBy, roleOver, roleOfFixity, rootPrecedence}
 use Rattle.grammar.specs.Tree.{Tree, nothing, leaf, bracket, block, node, flat, spanTree}
-use Rattle.grammar.specs.Nodes.{leafKind, count, operatorWords, words}
+use Rattle.grammar.specs.Nodes.{leafKind, count, operatorWords, wordsPerNode, precedenceOver, words}
 use Rattle.grammar.specs.Coded.{kindOf}
 use Rattle.grammar.proofs.Logic.{impossible}
 use Rattle.grammar.proofs.Operands.{Operated, words-length}
-use Rattle.grammar.proofs.WordsOffsets.{block-size}
-use Rattle.rows.specs.Fields.{kind, start, left, right}
-use Rattle.rows.specs.Standing.{mark, Rooted, Tokened}
-use Rattle.nodes.specs.Node.{atomKind}
+use Rattle.grammar.proofs.WordsOffsets.{bracket-size, block-size, node-size}
+use Rattle.rows.specs.Fields.{kind, start, prefix, infixed, postfix, left, right}
+use Rattle.rows.specs.Codes.{roleCode, roleOf, Fit, IsRole}
+use Rattle.rows.specs.Agreeing.{rolesFor, Noted}
+use Rattle.rows.specs.Standing.{mark, Rooted, Tokened, Roled}
+use Rattle.rows.proofs.Codes.{role-code, code-role}
+use Rattle.nodes.specs.Node.{precedenceOf, atomKind}
 use Rattle.nodes.specs.First.{openerOf, operandPart, firstPart}
-use Rattle.nodes.specs.Building.{Stands}
+use Rattle.nodes.specs.Building.{Rows, Stands}
 use Rattle.nodes.specs.declared.build.Part.{Part}
 use Rattle.nodes.specs.declared.build.Part.the-variants.{Nothing, Of}
 use Rattle.nodes.proofs.Parts.{
@@ -92,15 +95,6 @@ leaf-kind (symbol w) = refl
 leaf-kind (number d) = refl
 leaf-kind (quoted c) = refl
 
--- How many tokens a tree has.
-bracket-size : (t : Tree) → length (flat (bracket t)) ≡ length (flat t) + 2
-unfolding flat
-bracket-size t = simp length-append (omega arith)
-
-node-size : (l : Tree) (m : Bytes) (r : Tree) → length (flat (node l m r)) ≡ length (flat l) + length (flat r) + 1
-unfolding flat
-node-size l m r = simp length-append (omega arith)
-
 -- The last of some nodes.
 last-one : (n : ℕ) → pred n ≡ n - 1
 last-one n = omega arith
@@ -156,11 +150,57 @@ firstFrom i (bracket t) = suc i
 firstFrom i (block ds t) = suc (suc (i + length (allTokens ds)))
 firstFrom i (node l m r) = i
 
-abbrev pub childrenWords : (ℕ → ℕ) → Tree → ℕ → ℕ → List ℕ
-childrenWords places t i n = words places (firstOf t) (firstFrom i t) n ++ words places (secondOf t) (mark i t) (n + count (firstOf t))
+-- The operators in force in the first child.
+unfoldable pub firstTable : Table → Tree → Table
+firstTable T nothing = T
+firstTable T (leaf a) = T
+firstTable T (bracket t) = T
+firstTable T (block ds t) = declareAll T ds
+firstTable T (node l m r) = T
 
-module _ (places : ℕ → ℕ) (K O : List ℕ) where
-  -- Every operator that stands there has an operand, so there are five words to a node.
+abbrev pub childrenWords : (ℕ → ℕ) → Table → Tree → ℕ → ℕ → List ℕ
+childrenWords places T t i n =
+    words places (firstTable T t) (firstOf t) (firstFrom i t) n ++ words places T (secondOf t) (mark i t) (n + count (firstOf t))
+
+-- What is noted of an operator: the number of each of its roles, and so their precedences.
+module _ {T : Table} {R : List ℕ} {i : ℕ} {m : Bytes} (n : Noted T R i (symbol m)) (fit : (f : Fixity) → Fit (role T m f)) where
+  abbrev Numbered : ℕ → Fixity → Type 0
+  Numbered c f = IsRole c × (precedenceOf c ≡ rootPrecedence (role T m f))
+
+  numbered : (f : Fixity) {c : ℕ} → c ≡ roleCode (role T m f) → Numbered c f
+  numbered f e =
+      rw e (code-role (role T m f) (fit f), ap rootPrecedence (role-code (role T m f) (fit f)))
+
+  prefix-numbered : Numbered (prefix R i) Prefix
+  unfolding rolesFor
+  prefix-numbered = numbered Prefix (n .prefixed)
+
+  infix-numbered : Numbered (infixed R i) Infix
+  unfolding rolesFor
+  infix-numbered = numbered Infix (n .between)
+
+  postfix-numbered : Numbered (postfix R i) Postfix
+  unfolding rolesFor
+  postfix-numbered = numbered Postfix (n .postfixed)
+
+-- The precedence of an operator over its operands, by its fixity there.
+precedence-formed :
+    (T : Table) (l : Tree) (m : Bytes) (r : Tree) (f : Fixity) → fixity (spanTree l) (spanTree r) ≡ some f
+    → precedenceOver T l m r ≡ rootPrecedence (role T m f)
+unfolding roleOver roleOfFixity
+precedence-formed T l m r f e = ap (λ g. rootPrecedence (roleOfFixity T m g)) e
+
+module _ (places : ℕ → ℕ) (M : Rows) where
+  abbrev K : List ℕ
+  K = M .tokens
+
+  abbrev R : List ℕ
+  R = M .roles
+
+  abbrev O : List ℕ
+  O = M .roots
+
+  -- Every operator that stands there has an operand, so there are six words to a node.
   tokened-operated : (i : ℕ) (t : Tree) → Tokened places K i t → Operated t
   tokened-operated i nothing h = tt
   tokened-operated i (leaf a) h = tt
@@ -173,31 +213,32 @@ module _ (places : ℕ → ℕ) (K O : List ℕ) where
   )
 
   -- A tree as it stands at equal numbers.
-  stand : (i : ℕ) (t : Tree) {from at to : ℕ} → Tokened places K i t → Rooted O i t → i ≡ from → suc at ≡ mark i t → to ≡ i + length (flat t)
-      → Stands places K O from at to t
-  stand i t k o e m f = rw (← e) (record { tokened = k; rooted = o; root = m; end = f })
+  stand : (U : Table) (i : ℕ) (t : Tree) {from at to : ℕ} → Tokened places K i t → Roled R U i t → Rooted O i t → i ≡ from → suc at ≡ mark i t
+      → to ≡ i + length (flat t) → Stands places U M from at to t
+  stand U i t k c o e m f = rw (← e) (record { tokened = k; roled = c; rooted = o; root = m; end = f })
 
-  -- Its root is among its tokens, and it has a node; five words to each.
-  pub stands-root : {from at to : ℕ} {t : Tree} → Stands places K O from at to t → (1 ≤ count t) × (from ≤ at) × (at < to)
-  stands-root {from} {at} {to} {t} s =
+  -- Its root is among its tokens, and it has a node; six words to each.
+  pub stands-root : {T : Table} {from at to : ℕ} {t : Tree} → Stands places T M from at to t → (1 ≤ count t) × (from ≤ at) × (at < to)
+  stands-root {T} {from} {at} {to} {t} s =
       let e = s .root in
       let m = marked from t (omega arith) in
       (m .some, omega arith, omega (arith, s .end))
 
-  pub stands-size : {from at to : ℕ} {t : Tree} → Stands places K O from at to t → (n : ℕ) → length (words places t from n) ≡ count t * 5
-  stands-size {from} {at} {to} {t} s n = omega (arith, words-length places t from n (tokened-operated from t (s .tokened)))
+  pub stands-size :
+      {T : Table} {from at to : ℕ} {t : Tree} → Stands places T M from at to t → (n : ℕ) → length (words places T t from n) ≡ count t * wordsPerNode
+  stands-size {T} {from} {at} {to} {t} s n = omega (arith, words-length places T t from n (tokened-operated from t (s .tokened)))
 
-  -- A child of the tree that stands from `from` to `to`: it has fewer tokens and nodes.
-  pub record Child (from to : ℕ) (t : Tree) (from′ at′ to′ : ℕ) (u : Tree) : Type 0 where
-    pub stands : Stands places K O from′ at′ to′ u
+  -- A child, under the operators `U`, of the tree that stands from `from` to `to`: it has fewer tokens and nodes.
+  pub record Child (U : Table) (from to : ℕ) (t : Tree) (from′ at′ to′ : ℕ) (u : Tree) : Type 0 where
+    pub stands : Stands places U M from′ at′ to′ u
     pub fewer : count u < count t
     pub falls : to′ - from′ < to - from
     pub within : to′ ≤ to
 
   -- The child `u`, whose tokens begin at `i`, stands in its part; where there is no part the child is missing.
-  abbrev pub StandsIn : ℕ → ℕ → Tree → ℕ → Tree → Part → Type 0
-  StandsIn from to t i u Nothing = u ≡ nothing
-  StandsIn from to t i u (Of from′ at′ to′) = (from′ ≡ i) × Child from to t from′ at′ to′ u
+  abbrev pub StandsIn : Table → ℕ → ℕ → Tree → ℕ → Tree → Part → Type 0
+  StandsIn U from to t i u Nothing = u ≡ nothing
+  StandsIn U from to t i u (Of from′ at′ to′) = (from′ ≡ i) × Child U from to t from′ at′ to′ u
 
   -- The opener of a bracket pair or a block.
   pub record Opened (at to o : ℕ) : Type 0 where
@@ -205,30 +246,36 @@ module _ (places : ℕ → ℕ) (K O : List ℕ) where
     pub within : o < to
     pub root : 1 ≤ left O o
 
-  pub record Shape (from at to : ℕ) (t : Tree) : Type 0 where
-    pub opened : 3 < kind K at → Opened at to (openerOf K at)
-    pub first : StandsIn from to t (firstFrom from t) (firstOf t) (firstPart K O from at)
-    pub second : StandsIn from to t (mark from t) (secondOf t) (secondPart K O at to)
-    pub nodes : count t ≡ count (firstOf t) + count (secondOf t) + 1
-    pub text : (n : ℕ) → words places t from n
-        ≡ childrenWords places t from n ++ lastWords K O at n (count (firstOf t)) (count (firstOf t) + count (secondOf t))
+  -- The roles of the operator at token number `at` have numbers.
+  abbrev pub Coded : ℕ → Type 0
+  Coded at = IsRole (prefix R at) × IsRole (infixed R at) × IsRole (postfix R at)
 
-  leaf-shape : (a : Atom) {from to : ℕ} → Stands places K O from from to (leaf a) → Shape from from to (leaf a)
+  pub record Shape (T : Table) (from at to : ℕ) (t : Tree) : Type 0 where
+    pub opened : 3 < kind K at → Opened at to (openerOf K at)
+    pub coded : kind K at ≤ 3 → 1 ≤ count (firstOf t) + count (secondOf t) → Coded at
+    pub first : StandsIn (firstTable T t) from to t (firstFrom from t) (firstOf t) (firstPart K O from at)
+    pub second : StandsIn T from to t (mark from t) (secondOf t) (secondPart K O at to)
+    pub nodes : count t ≡ count (firstOf t) + count (secondOf t) + 1
+    pub text : (n : ℕ) → words places T t from n
+        ≡ childrenWords places T t from n ++ lastWords M at n (count (firstOf t)) (count (firstOf t) + count (secondOf t))
+
+  leaf-shape : {T : Table} (a : Atom) {from to : ℕ} → Stands places T M from from to (leaf a) → Shape T from from to (leaf a)
   unfolding count words firstOf secondOf
-  leaf-shape a {from} {to} s =
+  leaf-shape {T} a {from} {to} s =
       let k = s .tokened in
       let is-atom : kind K from ≤ 3 = omega (arith, atom-low a, k .0) in
       record {
         opened = λ h. absurd (omega arith);
+        coded = λ h l. absurd (omega arith);
         first = rw (first-left K O from is-atom from, operand-none (left O from) from from (s .rooted .0));
         second = rw (second-absent K O from is-atom to (s .rooted .1));
         nodes = refl;
-        text = λ n. rw (last-atom K O from is-atom (s .rooted .1) n 0 0 refl, k .0, k .1, k .2, leaf-kind a);
+        text = λ n. rw (last-atom M from is-atom (s .rooted .1) n 0 0 refl, k .0, k .1, k .2, leaf-kind a);
       }
 
-  bracket-shape : (t : Tree) {from to : ℕ} → Stands places K O from from to (bracket t) → Shape from from to (bracket t)
-  unfolding count words firstOf secondOf firstFrom
-  bracket-shape t {from} {to} s =
+  bracket-shape : {T : Table} (t : Tree) {from to : ℕ} → Stands places T M from from to (bracket t) → Shape T from from to (bracket t)
+  unfolding count words firstOf secondOf firstFrom firstTable
+  bracket-shape {T} t {from} {to} s =
       let k = s .tokened in
       let o = s .rooted in
       let m = present-marked (suc from) t (k .2) in
@@ -238,10 +285,11 @@ module _ (places : ℕ → ℕ) (K O : List ℕ) where
       let opener = opener-bracket K from (k .0) in
       record {
         opened = λ h. rw opener (record { starts = λ up. omega arith; within = omega arith; root = omega (arith, o .0) });
+        coded = λ h l. absurd (omega arith);
         first = rw (first-span K O from is-structure from, opener) (
           add-one from,
           record {
-            stands = stand (suc from) t (k .3) (o .1) (sym (add-one from)) (omega (arith, o .0)) (omega (arith, k .1));
+            stands = stand T (suc from) t (k .3) (s .roled) (o .1) (sym (add-one from)) (omega (arith, o .0)) (omega (arith, k .1));
             fewer = omega arith;
             falls = omega (arith, k .1);
             within = omega (arith, k .1);
@@ -249,12 +297,14 @@ module _ (places : ℕ → ℕ) (K O : List ℕ) where
         );
         second = rw (second-none K O from is-structure to);
         nodes = omega arith;
-        text = λ n. rw (last-bracket K O from is-structure (k .0) n (count t) (count t + 0), append-nil, add-zero (count t), last-one (n + count t));
+        text = λ n. rw (last-bracket M from is-structure (k .0) n (count t) (count t + 0), append-nil, add-zero (count t), last-one (n + count t));
       }
 
-  block-shape : (ds : List Declaration) (t : Tree) {from to : ℕ} → Stands places K O from from to (block ds t) → Shape from from to (block ds t)
-  unfolding count words firstOf secondOf firstFrom
-  block-shape ds t {from} {to} s =
+  block-shape :
+      {T : Table} (ds : List Declaration) (t : Tree) {from to : ℕ} → Stands places T M from from to (block ds t)
+      → Shape T from from to (block ds t)
+  unfolding count words firstOf secondOf firstFrom firstTable
+  block-shape {T} ds t {from} {to} s =
       let c = suc (from + length (allTokens ds)) in
       let k = s .tokened in
       let o = s .rooted in
@@ -269,10 +319,11 @@ module _ (places : ℕ → ℕ) (K O : List ℕ) where
           within = omega arith;
           root = omega (arith, o .0);
         });
+        coded = λ h l. absurd (omega arith);
         first = rw (first-span K O from is-structure from, opener) (
           add-one c,
           record {
-            stands = stand (suc c) t (k .6) (o .1) (sym (add-one c)) (omega (arith, o .0)) (omega (arith, k .4));
+            stands = stand (declareAll T ds) (suc c) t (k .6) (s .roled) (o .1) (sym (add-one c)) (omega (arith, o .0)) (omega (arith, k .4));
             fewer = omega arith;
             falls = omega (arith, k .4);
             within = omega (arith, k .4);
@@ -282,7 +333,7 @@ module _ (places : ℕ → ℕ) (K O : List ℕ) where
         nodes = omega arith;
         text = λ n.
             rw (
-              last-block K O from is-structure (λ e. omega (arith, k .0)) n (count t) (count t + 0),
+              last-block M from is-structure (λ e. omega (arith, k .0)) n (count t) (count t + 0),
               opener,
               k .1,
               k .3,
@@ -292,29 +343,36 @@ module _ (places : ℕ → ℕ) (K O : List ℕ) where
             );
       }
 
-  module _ (l : Tree) (m : Bytes) (r : Tree) {from to : ℕ} (s : Stands places K O from (from + length (flat l)) to (node l m r)) where
+  module _ {T : Table} (l : Tree) (m : Bytes) (r : Tree) {from to : ℕ} (s : Stands places T M from (from + length (flat l)) to (node l m r)) where
     abbrev place : ℕ
     place = from + length (flat l)
 
     abbrev last : ℕ → Type 0
     last n =
         operatorWords (fixity (spanTree l) (spanTree r)) (pred (n + count l)) (pred (n + count l + count r)) (places place) (length m)
-        ≡ lastWords K O place n (count l) (count l + count r)
+        (precedenceOver T l m r)
+        ≡ lastWords M place n (count l) (count l + count r)
 
     is-atom : kind K place ≤ 3
     is-atom = omega (arith, s .tokened .0)
 
+    noted : Noted T R place (symbol m)
+    noted = s .roled .0
+
+    fits : (f : Fixity) → Fit (role T m f)
+    fits = s .roled .1
+
     -- An operand stands in its part, or it is missing.
     operand-stands :
-        (u : Tree) (i x from′ to′ : ℕ) → Tokened places K i u → Rooted O i u → x ≡ mark i u → from′ ≡ i → to′ ≡ i + length (flat u)
-        → count u < count (node l m r) → to′ - from′ < to - from → to′ ≤ to → StandsIn from to (node l m r) i u (operandPart x from′ to′)
-    operand-stands u i x from′ to′ k o e f g fewer falls within = go x refl
+        (u : Tree) (i x from′ to′ : ℕ) → Tokened places K i u → Roled R T i u → Rooted O i u → x ≡ mark i u → from′ ≡ i → to′ ≡ i + length (flat u)
+        → count u < count (node l m r) → to′ - from′ < to - from → to′ ≤ to → StandsIn T from to (node l m r) i u (operandPart x from′ to′)
+    operand-stands u i x from′ to′ k c o e f g fewer falls within = go x refl
       where
-        go : (y : ℕ) → x ≡ y → StandsIn from to (node l m r) i u (operandPart x from′ to′)
+        go : (y : ℕ) → x ≡ y → StandsIn T from to (node l m r) i u (operandPart x from′ to′)
         go zero p = rw (operand-none x from′ to′ p) (unmarked i u (sym e ∙ p))
         go (suc y) p =
             rw (operand-some x from′ to′ (λ q. omega arith))
-            (f, record { stands = stand i u k o (sym f) (omega arith) g; fewer = fewer; falls = falls; within = within })
+            (f, record { stands = stand T i u k c o (sym f) (omega arith) g; fewer = fewer; falls = falls; within = within })
 
     -- The last node of an operator by the operands that there are.
     prefix-last : mark from l ≡ 0 → 1 ≤ mark (suc place) r → (n : ℕ) → last n
@@ -324,8 +382,10 @@ module _ (places : ℕ → ℕ) (K O : List ℕ) where
         let none : count l ≡ 0 = rw e in
         let f = formed-of l r false true (rw e absent) (marked (suc place) r h .there) in
         rw (
-          last-right K O place is-atom (λ q. omega (arith, s .rooted .1)) n (count l) (count l + count r),
-          prefix-words n (count l) (count l + count r) K place none,
+          last-right M place is-atom (λ q. omega (arith, s .rooted .1)) n (count l) (count l + count r),
+          prefix-words n (count l) (count l + count r) K R place none,
+          prefix-numbered noted fits .1,
+          precedence-formed T l m r Prefix f,
           f,
           s .tokened .1,
           s .tokened .2,
@@ -339,7 +399,9 @@ module _ (places : ℕ → ℕ) (K O : List ℕ) where
         let none : count l + count r ≡ count l = rw (e, add-zero (count l)) in
         let f = formed-of l r true false (marked from l h .there) (rw e absent) in
         rw (
-          last-postfix K O place is-atom (s .rooted .1 ∙ q) n (count l) (count l + count r) (λ z. omega (arith, marked from l h .some)),
+          last-postfix M place is-atom (s .rooted .1 ∙ q) n (count l) (count l + count r) (λ z. omega (arith, marked from l h .some)),
+          postfix-numbered noted fits .1,
+          precedence-formed T l m r Postfix f,
           f,
           s .tokened .1,
           s .tokened .2,
@@ -352,8 +414,10 @@ module _ (places : ℕ → ℕ) (K O : List ℕ) where
     infix-last h g n =
         let f = formed-of l r true true (marked from l h .there) (marked (suc place) r g .there) in
         rw (
-          last-right K O place is-atom (λ q. omega (arith, s .rooted .1)) n (count l) (count l + count r),
-          infix-words n (count l) (count l + count r) K place (λ z. omega (arith, marked from l h .some)),
+          last-right M place is-atom (λ q. omega (arith, s .rooted .1)) n (count l) (count l + count r),
+          infix-words n (count l) (count l + count r) K R place (λ z. omega (arith, marked from l h .some)),
+          infix-numbered noted fits .1,
+          precedence-formed T l m r Infix f,
           f,
           s .tokened .1,
           s .tokened .2,
@@ -370,8 +434,8 @@ module _ (places : ℕ → ℕ) (K O : List ℕ) where
         go (suc x) p zero q = postfix-last (omega arith) q n
         go (suc x) p (suc y) q = infix-last (omega arith) (omega arith) n
 
-    node-shape : Shape from place to (node l m r)
-    unfolding count words firstOf secondOf firstFrom mark
+    node-shape : Shape T from place to (node l m r)
+    unfolding count words firstOf secondOf firstFrom firstTable mark
     node-shape =
         let z = node-size l m r in
         let e = s .end in
@@ -379,19 +443,20 @@ module _ (places : ℕ → ℕ) (K O : List ℕ) where
         let o = s .rooted in
         record {
           opened = λ h. absurd (omega (arith, is-atom));
+          coded = λ h l. (prefix-numbered noted fits .0, infix-numbered noted fits .0, postfix-numbered noted fits .0);
           first = rw (first-left K O place is-atom from)
-              (operand-stands l from (left O place) from place (k .4) (o .2) (o .0) refl refl (omega arith) (omega arith) (omega arith));
+              (operand-stands l from (left O place) from place (k .4) (s .roled .2) (o .2) (o .0) refl refl (omega arith) (omega arith) (omega arith));
           second = rw (second-right K O place is-atom to)
-              (operand-stands r (suc place) (right O place) (place + 1) to (k .5) (o .3) (o .1) (add-one place) (omega arith) (omega arith) (omega arith) (omega arith));
+              (operand-stands r (suc place) (right O place) (place + 1) to (k .5) (s .roled .3) (o .3) (o .1) (add-one place) (omega arith) (omega arith) (omega arith) (omega arith));
           nodes = refl;
           text = λ n. rw (node-last n, append-assoc);
         }
 
-  pub shape : {from at to : ℕ} (t : Tree) → Stands places K O from at to t → Shape from at to t
+  pub shape : {T : Table} {from at to : ℕ} (t : Tree) → Stands places T M from at to t → Shape T from at to t
   unfolding mark
   shape nothing s = absurd (omega (arith, s .root))
-  shape {from} {at} {to} (leaf a) s = let e : at ≡ from = omega (arith, s .root) in rw e (leaf-shape a (rw e at s))
-  shape {from} {at} {to} (bracket t) s = let e : at ≡ from = omega (arith, s .root) in rw e (bracket-shape t (rw e at s))
-  shape {from} {at} {to} (block ds t) s = let e : at ≡ from = omega (arith, s .root) in rw e (block-shape ds t (rw e at s))
-  shape {from} {at} {to} (node l m r) s =
+  shape {T} {from} {at} {to} (leaf a) s = let e : at ≡ from = omega (arith, s .root) in rw e (leaf-shape a (rw e at s))
+  shape {T} {from} {at} {to} (bracket t) s = let e : at ≡ from = omega (arith, s .root) in rw e (bracket-shape t (rw e at s))
+  shape {T} {from} {at} {to} (block ds t) s = let e : at ≡ from = omega (arith, s .root) in rw e (block-shape ds t (rw e at s))
+  shape {T} {from} {at} {to} (node l m r) s =
       let e : at ≡ from + length (flat l) = omega (arith, s .root) in rw e (node-shape l m r (rw e at s))

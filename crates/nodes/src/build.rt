@@ -2,6 +2,7 @@
 // of its left sibling. It calls itself at two places only: each costs stack in every frame.
 use crate::node;
 use rows::kinds;
+use rows::roles as roles_row;
 use rows::roots as roots_row;
 use rows::tokens as tokens_row;
 ghost use mathlib.Core.Path.{_≡_};
@@ -9,7 +10,7 @@ ghost use Prim.Native.Nat.{_-_, _≤_};
 ghost use Rattle.rows.specs.Fields.{Within, left};
 ghost use Rattle.nodes.specs.Node.{standsAlone};
 ghost use Rattle.nodes.specs.First.{openerOf, HasFirst, firstPart};
-ghost use Rattle.nodes.specs.Building.{Buildable, Built};
+ghost use Rattle.nodes.specs.Building.{rows, Buildable, Built};
 
 // Whether the token at `at` stands over nothing: an atom that is no operator.
 fn is_leaf(tokens: &[u16], roots: &[u16], at: usize) -> bool
@@ -78,6 +79,7 @@ fn first(tokens: &[u16], roots: &[u16], kind: u16, from: usize, at: usize) -> Pa
 // Writes the nodes of the tokens from `from` to `to`, whose root is `at`, and answers how many they are; `base` nodes stand before.
 pub fn build(
     tokens: &[u16],
+    roles: &[u16],
     roots: &[u16],
     from: usize,
     at: usize,
@@ -85,8 +87,9 @@ pub fn build(
     nodes: &mut [u32],
     base: usize,
 ) -> usize
-    requires { ⌜ Buildable (now tokens) (now roots) from at to (now nodes) base ⌝ }
-    ensures { λ r. ⌜ Built (now (tokens .entry)) (now (roots .entry)) from at to (now (nodes .entry)) base (now (nodes .exit)) r ⌝ }
+    requires { ⌜ Buildable (rows (now tokens) (now roles) (now roots)) from at to (now nodes) base ⌝ }
+    ensures { λ r. ⌜ Built (rows (now (tokens .entry)) (now (roles .entry)) (now (roots .entry))) from at to
+        (now (nodes .entry)) base (now (nodes .exit)) r ⌝ }
 {
     let kind = tokens_row::kind(tokens, at);
     let mut l: usize = 0;
@@ -97,7 +100,7 @@ pub fn build(
             root,
             to: t,
         } => {
-            l = build(tokens, roots, f, root, t, nodes, base);
+            l = build(tokens, roles, roots, f, root, t, nodes, base);
         }
     }
     if kinds::QUOTED < kind {
@@ -111,15 +114,17 @@ pub fn build(
         if l == 0 {
             return node::leaf(tokens, at, nodes);
         }
-        return node::unary(tokens, at, node::POSTFIX, base, l, nodes);
+        let role = roles_row::postfix(roles, at);
+        return node::unary(tokens, at, node::POSTFIX, role, base, l, nodes);
     }
     let after = l * node::WORDS;
     if is_leaf(tokens, roots, right - 1) {
         let r = node::leaf(tokens, right - 1, &mut nodes[after..]);
-        return node::prefix_or_infix(tokens, at, base, l, r, nodes);
+        return node::prefix_or_infix(tokens, roles, at, base, l, r, nodes);
     }
     let r = build(
         tokens,
+        roles,
         roots,
         at + 1,
         right - 1,
@@ -127,5 +132,5 @@ pub fn build(
         &mut nodes[after..],
         base + l,
     );
-    node::prefix_or_infix(tokens, at, base, l, r, nodes)
+    node::prefix_or_infix(tokens, roles, at, base, l, r, nodes)
 }

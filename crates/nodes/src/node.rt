@@ -1,14 +1,17 @@
-// The words of one node: kind, first child, second child, offset, length.
+// The words of one node: kind, first child, second child, offset, length, precedence.
 use rows::kinds;
+use rows::role;
+use rows::roles;
 use rows::tokens as row;
 ghost use mathlib.Core.Path.{_≡_};
 ghost use Prim.Native.Nat.{_+_, _-_, _*_, _≤_};
 ghost use lib.Seq.{sets};
-ghost use Rattle.grammar.specs.Nodes.{nodeWords};
-ghost use Rattle.rows.specs.Fields.{Within, start};
-ghost use Rattle.nodes.specs.Node.{tokenWords, atomWords, blockWords, prefixOrInfixWords, HasNode, IsWord, EndsInChild, Appended};
+ghost use Rattle.grammar.specs.Nodes.{nodeWords, wordsPerNode, infixKind, bracketKind};
+ghost use Rattle.rows.specs.Fields.{Within, start, prefix, infixed};
+ghost use Rattle.rows.specs.Codes.{IsRole};
+ghost use Rattle.nodes.specs.Node.{precedenceOf, tokenWords, atomWords, blockWords, prefixOrInfixWords, HasNode, IsWord, EndsInChild, Appended};
 
-pub const WORDS: usize = 5;
+pub const WORDS: usize = 6;
 
 // Kinds of nodes.
 pub const NAME: u32 = 1;
@@ -34,9 +37,10 @@ pub fn put(
     second: usize,
     offset: usize,
     size: usize,
+    precedence: u16,
 )
     requires { ⌜ HasNode (now nodes) at × IsWord first × IsWord second × IsWord offset × IsWord size ⌝ }
-    ensures { λ r. ⌜ now (nodes .exit) ≡ sets (now (nodes .entry)) (at * 5) (nodeWords kind first second offset size) ⌝ }
+    ensures { λ r. ⌜ now (nodes .exit) ≡ sets (now (nodes .entry)) (at * wordsPerNode) (nodeWords kind first second offset size precedence) ⌝ }
 {
     let w = at * WORDS;
     nodes[w] = kind;
@@ -44,6 +48,7 @@ pub fn put(
     nodes[w + 2] = second as u32;
     nodes[w + 3] = offset as u32;
     nodes[w + 4] = size as u32;
+    nodes[w + 5] = precedence as u32;
 }
 
 // The same with the characters of token `i`.
@@ -55,13 +60,14 @@ fn put_token(
     second: usize,
     tokens: &[u16],
     i: usize,
+    precedence: u16,
 )
     requires { ⌜ HasNode (now nodes) at × IsWord first × IsWord second × Within 4 (now tokens) i ⌝ }
-    ensures { λ r. ⌜ now (nodes .exit) ≡ sets (now (nodes .entry)) (at * 5) (tokenWords kind first second (now (tokens .entry)) i) ⌝ }
+    ensures { λ r. ⌜ now (nodes .exit) ≡ sets (now (nodes .entry)) (at * wordsPerNode) (tokenWords kind first second (now (tokens .entry)) i precedence) ⌝ }
 {
     let start = row::start(tokens, i);
     let size = row::size(tokens, i);
-    put(nodes, at, kind, first, second, start, size);
+    put(nodes, at, kind, first, second, start, size, precedence);
 }
 
 // The node of an atom.
@@ -70,58 +76,96 @@ pub fn leaf(tokens: &[u16], i: usize, nodes: &mut [u32]) -> usize
     ensures { λ r. ⌜ Appended (atomWords (now (tokens .entry)) i) (now (nodes .entry)) 0 (now (nodes .exit)) r ⌝ }
 {
     if row::kind(tokens, i) == kinds::NUMBER {
-        put_token(nodes, 0, NUMBER, 0, 0, tokens, i);
+        put_token(nodes, 0, NUMBER, 0, 0, tokens, i, 0);
         return 1;
     }
-    put_token(nodes, 0, NAME, 0, 0, tokens, i);
+    put_token(nodes, 0, NAME, 0, 0, tokens, i, 0);
     1
 }
 
-// The node of an infix operator behind the `l` nodes of its left operand and the `r` nodes of its right one; `base` nodes stand before.
-pub fn infix(tokens: &[u16], i: usize, base: usize, l: usize, r: usize, nodes: &mut [u32]) -> usize
-    requires { ⌜ Within 4 (now tokens) i × EndsInChild (base + l) × EndsInChild (base + (l + r)) × HasNode (now nodes) (l + r) ⌝ }
-    ensures { λ a. ⌜ Appended (tokenWords 4 (base + l - 1) (base + (l + r) - 1) (now (tokens .entry)) i)
+// The node of an infix operator in the role, behind the `l` nodes of its left operand and the `r` nodes of its right one; `base` nodes
+// stand before.
+pub fn infix(
+    tokens: &[u16],
+    i: usize,
+    role: u16,
+    base: usize,
+    l: usize,
+    r: usize,
+    nodes: &mut [u32],
+) -> usize
+    requires { ⌜ Within 4 (now tokens) i × IsRole role × EndsInChild (base + l) × EndsInChild (base + (l + r)) × HasNode (now nodes) (l + r) ⌝ }
+    ensures { λ a. ⌜ Appended (tokenWords infixKind (base + l - 1) (base + (l + r) - 1) (now (tokens .entry)) i (precedenceOf role))
         (now (nodes .entry)) (l + r) (now (nodes .exit)) a ⌝ }
 {
     let n = l + r;
-    put_token(nodes, n, INFIX, base + l - 1, base + n - 1, tokens, i);
+    put_token(
+        nodes,
+        n,
+        INFIX,
+        base + l - 1,
+        base + n - 1,
+        tokens,
+        i,
+        role::precedence(role),
+    );
     n + 1
 }
 
-// The node of a prefix or postfix operator (`kind`) behind the `n` nodes of its operand.
-pub fn unary(tokens: &[u16], i: usize, kind: u32, base: usize, n: usize, nodes: &mut [u32]) -> usize
-    requires { ⌜ Within 4 (now tokens) i × EndsInChild (base + n) × HasNode (now nodes) n ⌝ }
-    ensures { λ r. ⌜ Appended (tokenWords kind (base + n - 1) 0 (now (tokens .entry)) i)
+// The node of a prefix or postfix operator (`kind`) in the role, behind the `n` nodes of its operand.
+pub fn unary(
+    tokens: &[u16],
+    i: usize,
+    kind: u32,
+    role: u16,
+    base: usize,
+    n: usize,
+    nodes: &mut [u32],
+) -> usize
+    requires { ⌜ Within 4 (now tokens) i × IsRole role × EndsInChild (base + n) × HasNode (now nodes) n ⌝ }
+    ensures { λ r. ⌜ Appended (tokenWords kind (base + n - 1) 0 (now (tokens .entry)) i (precedenceOf role))
         (now (nodes .entry)) n (now (nodes .exit)) r ⌝ }
 {
-    put_token(nodes, n, kind, base + n - 1, 0, tokens, i);
+    put_token(
+        nodes,
+        n,
+        kind,
+        base + n - 1,
+        0,
+        tokens,
+        i,
+        role::precedence(role),
+    );
     n + 1
 }
 
 // The node of an operator behind the `l` nodes of its left operand, 0 if it has none, and the `r` nodes of its right one.
 pub fn prefix_or_infix(
     tokens: &[u16],
+    roles: &[u16],
     i: usize,
     base: usize,
     l: usize,
     r: usize,
     nodes: &mut [u32],
 ) -> usize
-    requires { ⌜ Within 4 (now tokens) i × (1 ≤ r) × (base + (l + r) ≤ 4096) × HasNode (now nodes) (l + r) ⌝ }
-    ensures { λ a. ⌜ Appended (prefixOrInfixWords base l (l + r) (now (tokens .entry)) i) (now (nodes .entry)) (l + r) (now (nodes .exit)) a ⌝ }
+    requires { ⌜ Within 4 (now tokens) i × Within 4 (now roles) i × IsRole (prefix (now roles) i) × IsRole (infixed (now roles) i)
+        × (1 ≤ r) × (base + (l + r) ≤ 4096) × HasNode (now nodes) (l + r) ⌝ }
+    ensures { λ a. ⌜ Appended (prefixOrInfixWords base l (l + r) (now (tokens .entry)) (now (roles .entry)) i)
+        (now (nodes .entry)) (l + r) (now (nodes .exit)) a ⌝ }
 {
     if l == 0 {
-        return unary(tokens, i, PREFIX, base, r, nodes);
+        return unary(tokens, i, PREFIX, roles::prefix(roles, i), base, r, nodes);
     }
-    infix(tokens, i, base, l, r, nodes)
+    infix(tokens, i, roles::infix(roles, i), base, l, r, nodes)
 }
 
 // The node of a bracket pair behind the `n` nodes of its inside.
 pub fn bracket(base: usize, n: usize, nodes: &mut [u32]) -> usize
     requires { ⌜ EndsInChild (base + n) × HasNode (now nodes) n ⌝ }
-    ensures { λ r. ⌜ Appended (nodeWords 6 (base + n - 1) 0 0 0) (now (nodes .entry)) n (now (nodes .exit)) r ⌝ }
+    ensures { λ r. ⌜ Appended (nodeWords bracketKind (base + n - 1) 0 0 0 0) (now (nodes .entry)) n (now (nodes .exit)) r ⌝ }
 {
-    put(nodes, n, BRACKET, base + n - 1, 0, 0, 0);
+    put(nodes, n, BRACKET, base + n - 1, 0, 0, 0, 0);
     n + 1
 }
 
@@ -133,6 +177,6 @@ pub fn block(tokens: &[u16], i: usize, c: usize, base: usize, n: usize, nodes: &
 {
     let start = row::start(tokens, i);
     let end = row::start(tokens, c) + 2;
-    put(nodes, n, BLOCK, base + n - 1, 0, start, end - start);
+    put(nodes, n, BLOCK, base + n - 1, 0, start, end - start, 0);
     n + 1
 }

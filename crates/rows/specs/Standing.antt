@@ -5,12 +5,15 @@ use mathlib.Core.List.{List}
 use Prim.Native.Nat.{ℕ, suc, _+_}
 use lib.ListN.{length}
 use Rattle.grammar.specs.Token.{atom, symbol, number, quoted, characters}
-use Rattle.grammar.specs.Declaration.{allTokens}
+use Rattle.grammar.specs.Operator.{Fixity, Table, role}
+use Rattle.grammar.specs.Declaration.{declareAll, allTokens}
 use Rattle.grammar.specs.SpanTree.{present}
 use Rattle.grammar.specs.Tree.{Tree, nothing, leaf, bracket, block, node, flat, spanTree}
 use Rattle.grammar.specs.Nodes.{charactersOffset}
 use Rattle.grammar.specs.Coded.{kindOf}
 use Rattle.rows.specs.Fields.{kind, start, size, closer, left, right}
+use Rattle.rows.specs.Codes.{Fit}
+use Rattle.rows.specs.Agreeing.{Noted}
 
 -- One more than the number of the token that is the tree's root; 0 for no tree.
 unfoldable pub mark : ℕ → Tree → ℕ
@@ -47,3 +50,12 @@ Tokened places K i (node l m r) =
     let a = i + length (flat l) in
     (kind K a ≡ 1) × (start K a ≡ places a) × (size K a ≡ length m) × (present (spanTree l) || present (spanTree r) ≡ true)
     × Tokened places K i l × Tokened places K (suc a) r
+
+-- The row of roles has the roles of each operator of the tree in the operators in force there; `T` has those of the tree's outermost span.
+abbrev pub Roled : List ℕ → Table → ℕ → Tree → Type 0
+Roled R T i nothing = Unit {0}
+Roled R T i (leaf a) = Unit {0}
+Roled R T i (bracket t) = Roled R T (suc i) t
+Roled R T i (block ds t) = Roled R (declareAll T ds) (suc (suc (i + length (allTokens ds)))) t
+Roled R T i (node l m r) =
+    let a = i + length (flat l) in Noted T R a (symbol m) × ((f : Fixity) → Fit (role T m f)) × Roled R T i l × Roled R T (suc a) r

@@ -10,10 +10,12 @@ use borrow.Author.Needs.{needs}
 use borrow.Rule.Slice.PartMut.{midOf, putMid}
 use borrow.Fn.Kinds.{In}
 use borrow.Fn.PlainCycle.{Measures, is, falls, and}
-use Rattle.rows.specs.Fields.{kind, right, Within}
-use Rattle.nodes.specs.Node.{tokenWords, blockWords, prefixOrInfixWords, HasNode, EndsInChild, Appended}
+use Rattle.grammar.specs.Nodes.{postfixKind, wordsPerNode}
+use Rattle.rows.specs.Fields.{kind, prefix, infixed, right, Within}
+use Rattle.rows.specs.Codes.{IsRole}
+use Rattle.nodes.specs.Node.{precedenceOf, tokenWords, blockWords, prefixOrInfixWords, HasNode, EndsInChild, Appended}
 use Rattle.nodes.specs.First.{firstPart}
-use Rattle.nodes.specs.Building.{Buildable, Built}
+use Rattle.nodes.specs.Building.{rows, Buildable, Built}
 use Rattle.nodes.specs.declared.build.Part.the-variants.{Of}
 use Rattle.nodes.proofs.Nodes.{alone}
 use Rattle.nodes.proofs.Parts.{
@@ -34,6 +36,7 @@ use Rattle.nodes.proofs.Steps.{
   built-length,
   built-counts,
   root-token,
+  root-role,
   root-root,
   node-room,
   opener-asks,
@@ -48,6 +51,7 @@ use Rattle.nodes.proofs.Steps.{
   second-asks,
   children-two,
   last-room,
+  last-coded,
   done,
   atom-done,
 }
@@ -62,19 +66,20 @@ use Rattle.nodes.proofs.node.bracket.Reads as bracket-reads
 use Rattle.nodes.proofs.node.leaf.Reads as leaf-reads
 use Rattle.nodes.proofs.node.prefix_or_infix.Reads as prefix-or-infix-reads
 use Rattle.nodes.proofs.node.unary.Reads as unary-reads
+use Rattle.rows.proofs.roles.postfix.Reads as postfix-reads
 use Rattle.rows.proofs.roots.right.Reads as right-reads
 use Rattle.rows.proofs.tokens.kind.Reads as kind-reads
 use Rattle.nodes.proofs.build.+build.{statement}
 use Rattle.nodes.proofs.build.+build.Tie.{close}
 
-abbrev μ-build : Measures 3 build-kinds.ps ℕ
-μ-build κs a = a .1 .1 .1 .1 .0 - a .1 .1 .0
+abbrev μ-build : Measures 4 build-kinds.ps ℕ
+μ-build κs a = a .1 .1 .1 .1 .1 .0 - a .1 .1 .1 .0
 
-abbrev build-at : ℕ → In 3 build-kinds.ps
-build-at t = and 3 build-kinds.ps (is 3 build-kinds.ps μ-build t) build.Pre
+abbrev build-at : ℕ → In 4 build-kinds.ps
+build-at t = and 4 build-kinds.ps (is 4 build-kinds.ps μ-build t) build.Pre
 
-abbrev build-below : ℕ → In 3 build-kinds.ps
-build-below t = and 3 build-kinds.ps (falls 3 build-kinds.ps _<_ μ-build t) build.Pre
+abbrev build-below : ℕ → In 4 build-kinds.ps
+build-below t = and 4 build-kinds.ps (falls 4 build-kinds.ps _<_ μ-build t) build.Pre
 
 abbrev calls : ℕ → build-lts.Claims
 calls t = (
@@ -94,6 +99,8 @@ calls t = (
   right-reads.Learnt,
   leaf-reads.Asked,
   leaf-reads.Learnt,
+  postfix-reads.Asked,
+  postfix-reads.Learnt,
   unary-reads.Asked,
   unary-reads.Learnt,
   is-leaf-reads.Asked,
@@ -128,7 +135,7 @@ module _ (t : ℕ) where
 
   -- The way back to the beginning.
   abbrev from-first : First → Entry
-  from-first c = c .before .before .before .before .before
+  from-first c = c .before .before .before .before .before .before
 
   abbrev from-met : Met → Entry
   from-met c = from-first (c .before)
@@ -142,22 +149,22 @@ module _ (t : ℕ) where
   -- What is asked of the whole part, and what is to be left of it.
   abbrev asked : (c : Met)
       → let a = from-met c .args in
-      Buildable (a .tokens .now) (a .roots .now) (a .from) (a .at) (a .to) (a .nodes .now) (a .base)
+      Buildable (rows (a .tokens .now) (a .roles .now) (a .roots .now)) (a .from) (a .at) (a .to) (a .nodes .now) (a .base)
   asked c = from-met c .pre .1
 
   abbrev ChildrenAt : Met → List ℕ → ℕ → Type 0
   ChildrenAt c N n =
-      let a = from-met c .args in ChildrenBuilt (a .tokens .now) (a .roots .now) (a .from) (a .at) (a .to) (a .nodes .now) (a .base) N n
+      let a = from-met c .args in ChildrenBuilt (rows (a .tokens .now) (a .roles .now) (a .roots .now)) (a .from) (a .at) (a .to) (a .nodes .now) (a .base) N n
 
   abbrev BuiltAt : Met → List ℕ → ℕ → Type 0
   BuiltAt c N n =
-      let a = from-met c .args in Built (a .tokens .now) (a .roots .now) (a .from) (a .at) (a .to) (a .nodes .now) (a .base) N n
+      let a = from-met c .args in Built (rows (a .tokens .now) (a .roles .now) (a .roots .now)) (a .from) (a .at) (a .to) (a .nodes .now) (a .base) N n
 
   build-kind-requires : build-lts.Need-kind-requires (calls t) (build-at t) build.Post
-  build-kind-requires c κs = root-token (c .before .before .before .pre .1)
+  build-kind-requires c κs = root-token (c .before .before .before .before .pre .1)
 
   build-first-requires : build-lts.Need-first-requires (calls t) (build-at t) build.Post
-  build-first-requires c κs = has-first (c .before .before .before .before .pre .1) (c .kind .ensures)
+  build-first-requires c κs = has-first (c .before .before .before .before .before .pre .1) (c .kind .ensures)
 
   build-enum-told : build-lts.Need-enum-told (calls t) (build-at t) build.Post
   build-enum-told c = search needs
@@ -182,7 +189,7 @@ module _ (t : ℕ) where
   -- Where the ways meet: the first part is missing, or it is built.
   first-here : (c : Met)
       → let a = from-met c .args in
-      FirstBuilt (a .tokens .now) (a .roots .now) (a .from) (a .at) (a .to) (a .nodes .now) (a .base) (c .match .nodes) (c .match .l)
+      FirstBuilt (rows (a .tokens .now) (a .roles .now) (a .roots .now)) (a .from) (a .at) (a .to) (a .nodes .now) (a .base) (c .match .nodes) (c .match .l)
   first-here c =
       ⊎-elim
       (λ w. rw (w .2, w .3) (first-missing (sym (c .before .first .ensures) ∙ w .1 .given .1)))
@@ -212,7 +219,7 @@ module _ (t : ℕ) where
       let p = c .before .before .before .before in
       let m = p .before .before in
       done (asked m) (span-children (p .before)) _ (first-here m) (c .before .before .bracket .ensures)
-      (sym (last-bracket _ _ _ (is-structure (p .before)) (sym (m .before .before .kind .ensures) ∙ p .if2 .taken) _ _ _))
+      (sym (last-bracket _ _ (is-structure (p .before)) (sym (m .before .before .kind .ensures) ∙ p .if2 .taken) _ _ _))
 
   build-same-length : build-lts.Need-same-length (calls t) (build-at t) build.Post
   build-same-length c = built-length (asked (c .before .before .before .before .before .before)) (build-returns c)
@@ -237,7 +244,7 @@ module _ (t : ℕ) where
       let w = blockWords (a .base + m .match .l - 1) (a .tokens .now) (a .at) (q .opener .result) in
       done (asked m) (span-children (p .before)) w (first-here m) (c .before .before .block .ensures)
       (rw (q .opener .ensures)
-      (sym (last-block _ _ _ (is-structure (p .before)) (λ e. p .if2 .left (m .before .before .kind .ensures ∙ e)) _ _ _)))
+      (sym (last-block _ _ (is-structure (p .before)) (λ e. p .if2 .left (m .before .before .kind .ensures ∙ e)) _ _ _)))
 
   build-same-length-2 : build-lts.Need-same-length-2 (calls t) (build-at t) build.Post
   build-same-length-2 c = built-length (asked (c .before .before .before .before .before .before .before)) (build-returns-2 c)
@@ -270,43 +277,50 @@ module _ (t : ℕ) where
       let m = no-right-met q in
       let e = p .if4 .taken in
       done (asked m) (left-children q _ (sym e)) _ (first-here m) (c .before .before .leaf .ensures)
-      (sym (last-atom _ _ _ (is-atom (q .before .before)) (no-right q) _ _ _ e))
+      (sym (last-atom _ _ (is-atom (q .before .before)) (no-right q) _ _ _ e))
 
   build-same-length-3 : build-lts.Need-same-length-3 (calls t) (build-at t) build.Post
   build-same-length-3 c =
       let q = c .before .before .before .before .before in
       built-length (asked (no-right-met q)) (build-returns-3 c)
 
+  build-postfix-requires : build-lts.Need-postfix-requires (calls t) (build-at t) build.Post
+  build-postfix-requires c κs = root-role (asked (no-right-met (c .before)))
+
   build-unary-requires : build-lts.Need-unary-requires (calls t) (build-at t) build.Post
   build-unary-requires c κs =
-      let p = c .before in
-      let h = asked (no-right-met (p .before)) in
-      let r = last-room h (left-children (p .before) _ refl) in
-      (root-token h, omega (arith, p .if4 .left, r .0), r .1)
+      let p = c .before .before in
+      let q = p .before in
+      let h = asked (no-right-met q) in
+      let g = left-children q _ refl in
+      let r = last-room h g in
+      let roles = last-coded h g (is-atom (q .before .before)) (omega (arith, p .if4 .left)) in
+      (root-token h, rw (c .before .postfix .ensures) (roles .2), omega (arith, p .if4 .left, r .0), r .1)
 
   build-returns-4 : build-lts.Need-returns-4 (calls t) (build-at t) build.Post
   build-returns-4 c =
-      let p = c .before .before .before .before in
+      let f = c .before .before .before .before in
+      let p = f .before in
       let q = p .before in
       let m = no-right-met q in
       let a = from-met m .args in
-      let w = tokenWords 5 (a .base + m .match .l - 1) 0 (a .tokens .now) (a .at) in
+      let w = tokenWords postfixKind (a .base + m .match .l - 1) 0 (a .tokens .now) (a .at) (precedenceOf (f .postfix .result)) in
       done (asked m) (left-children q _ refl) w (first-here m) (c .before .before .unary .ensures)
-      (sym (last-postfix _ _ _ (is-atom (q .before .before)) (no-right q) _ _ _ (p .if4 .left)))
+      (rw (f .postfix .ensures) (sym (last-postfix _ _ (is-atom (q .before .before)) (no-right q) _ _ _ (p .if4 .left))))
 
   build-same-length-4 : build-lts.Need-same-length-4 (calls t) (build-at t) build.Post
   build-same-length-4 c =
-      let q = c .before .before .before .before .before in
+      let q = c .before .before .before .before .before .before in
       built-length (asked (no-right-met q)) (build-returns-4 c)
 
   -- An operand on its right: it is asked for in the lent part behind the nodes of the left one.
   abbrev lent : Met → List ℕ
-  lent c = let j = c .match in midOf (j .l * 5) (length (j .nodes) - j .l * 5) (j .nodes)
+  lent c = let j = c .match in midOf (j .l * wordsPerNode) (length (j .nodes) - j .l * wordsPerNode) (j .nodes)
 
   abbrev back : Met → List ℕ → List ℕ
-  back c M = let j = c .match in putMid (j .l * 5) (length (j .nodes) - j .l * 5) (j .nodes) M
+  back c M = let j = c .match in putMid (j .l * wordsPerNode) (length (j .nodes) - j .l * wordsPerNode) (j .nodes) M
 
-  lent-here : (c : Right) → let j = right-met c .match in (j .l ≤ 4096) × (j .l * 5 ≤ length (j .nodes))
+  lent-here : (c : Right) → let j = right-met c .match in (j .l ≤ 4096) × (j .l * wordsPerNode ≤ length (j .nodes))
   lent-here c = let m = right-met c in lent-starts (asked m) (first-here m)
 
   second-here : (c : Right)
@@ -318,7 +332,7 @@ module _ (t : ℕ) where
       → let m = right-met c in
       let a = from-met m .args in
       (a .to - (a .at + 1) < a .to - a .from)
-      × Buildable (a .tokens .now) (a .roots .now) (a .at + 1) (c .before .right .result - 1) (a .to) (lent m) (a .base + m .match .l)
+      × Buildable (rows (a .tokens .now) (a .roles .now) (a .roots .now)) (a .at + 1) (c .before .right .result - 1) (a .to) (lent m) (a .base + m .match .l)
   right-asks c = let m = right-met c in second-asks (asked m) (first-here m) (second-here c)
 
   -- It is built: both operands are all but the last node.
@@ -326,7 +340,7 @@ module _ (t : ℕ) where
   RightBuilt c M r =
       let m = right-met c in
       let a = from-met m .args in
-      Built (a .tokens .now) (a .roots .now) (a .at + 1) (c .before .right .result - 1) (a .to) (lent m) (a .base + m .match .l) M r
+      Built (rows (a .tokens .now) (a .roles .now) (a .roots .now)) (a .at + 1) (c .before .right .result - 1) (a .to) (lent m) (a .base + m .match .l) M r
 
   both-children : (c : Right) (M : List ℕ) (r : ℕ) → RightBuilt c M r
       → let m = right-met c in ChildrenAt m (back m M) (m .match .l + r)
@@ -336,22 +350,26 @@ module _ (t : ℕ) where
       → let m = right-met c in
       let a = from-met m .args in
       let n = m .match .l + r in
-      Within 4 (a .tokens .now) (a .at) × (1 ≤ r) × (a .base + n ≤ 4096) × HasNode (back m M) n
+      Within 4 (a .tokens .now) (a .at) × Within 4 (a .roles .now) (a .at) × IsRole (prefix (a .roles .now) (a .at))
+      × IsRole (infixed (a .roles .now) (a .at)) × (1 ≤ r) × (a .base + n ≤ 4096) × HasNode (back m M) n
   both-ends c M r v =
       let h = asked (right-met c) in
-      let e = last-room h (both-children c M r v) in
-      (root-token h, built-counts (right-asks c .1) v, e .0, e .1)
+      let g = both-children c M r v in
+      let e = last-room h g in
+      let some = built-counts (right-asks c .1) v in
+      let roles = last-coded h g (is-atom (c .before .before)) (omega arith) in
+      (root-token h, root-role h, roles .0, roles .1, some, e .0, e .1)
 
   both-done : (c : Right) (M : List ℕ) (r : ℕ) → RightBuilt c M r
       → let m = right-met c in
       let a = from-met m .args in
       let j = m .match in
-      (N : List ℕ) (n : ℕ) → Appended (prefixOrInfixWords (a .base) (j .l) (j .l + r) (a .tokens .now) (a .at)) (back m M) (j .l + r) N n
+      (N : List ℕ) (n : ℕ) → Appended (prefixOrInfixWords (a .base) (j .l) (j .l + r) (a .tokens .now) (a .roles .now) (a .at)) (back m M) (j .l + r) N n
       → BuiltAt m N n
   both-done c M r v N n w =
       let m = right-met c in
       done (asked m) (both-children c M r v) _ (first-here m) w
-      (sym (last-right _ _ _ (is-atom (c .before .before)) (λ e. c .if3 .left (c .before .right .ensures ∙ e)) _ _ _))
+      (sym (last-right _ _ (is-atom (c .before .before)) (λ e. c .if3 .left (c .before .right .ensures ∙ e)) _ _ _))
 
   build-mul-after : build-lts.Need-mul-after (calls t) (build-at t) build.Post
   build-mul-after c = omega (arith, lent-here (c .before))
@@ -471,6 +489,7 @@ pub +build-spec : {M : Type 1} → statement M
     (build-leaf-requires t)
     (build-same-length-3 t)
     (build-returns-3 t)
+    (build-postfix-requires t)
     (build-unary-requires t)
     (build-same-length-4 t)
     (build-returns-4 t)

@@ -1,4 +1,4 @@
--- The children are the last nodes of the operands.
+-- The children are the last nodes of the operands, and the role has the precedence.
 use mathlib.Core.Path.{refl}
 use native.Mathlib.Omega.{arith}
 use Rattle.nodes.proofs.Nodes.{put-words}
@@ -21,6 +21,9 @@ add-put-token-2 c = search needs
 sub-put-token-2 : tie.Need-sub-put-token-2
 sub-put-token-2 c = search needs
 
+precedence-requires : tie.Need-precedence-requires
+precedence-requires c κs = search needs
+
 put-token-requires : tie.Need-put-token-requires
 put-token-requires c κs = search needs
 
@@ -33,7 +36,9 @@ same-length c = search needs
 returns : tie.Need-returns
 returns c = record {
   answer = refl;
-  written = put-words _ _ _ _ _ _ _ _ _ _ _ _ (c .before .before .put-token .ensures) (omega arith) (omega arith) refl refl;
+  written =
+      put-words _ _ _ _ _ _ _ _ _ _ _ _ _ _ (c .before .before .put-token .ensures) (omega arith) (omega arith) refl refl
+      (c .before .before .before .precedence .ensures);
 }
 
 pub infix-spec : {M : Type 1} → statement M
@@ -45,6 +50,7 @@ infix-spec =
     sub-put-token
     add-put-token-2
     sub-put-token-2
+    precedence-requires
     put-token-requires
     add-result
     same-length

@@ -1,5 +1,5 @@
--- Five stores in a row are `sets` of five words; each index is below the length, which stays.
-use native.Mathlib.Numerals.{add-one, add-two, add-three, add-four}
+-- Six stores in a row are `sets` of six words; each index is below the length, which stays.
+use native.Mathlib.Numerals.{add-one, add-two, add-three, add-four, add-five}
 use native.Mathlib.Omega.{arith}
 use lib.ListN.{length-set}
 use Rattle.grammar.specs.Nodes.{nodeWords}
@@ -64,12 +64,21 @@ mul-nodes-5 c = search needs
 slice-write-nodes-5 : tie.Need-slice-write-nodes-5
 slice-write-nodes-5 c = simp length-set (omega arith)
 
+add-nodes-5 : tie.Need-add-nodes-5
+add-nodes-5 c = search needs
+
+mul-nodes-6 : tie.Need-mul-nodes-6
+mul-nodes-6 c = search needs
+
+slice-write-nodes-6 : tie.Need-slice-write-nodes-6
+slice-write-nodes-6 c = simp length-set (omega arith)
+
 same-length : tie.Need-same-length
 same-length c = search needs
 
 returns : tie.Need-returns
 unfolding nodeWords
-returns c = rw (add-one, add-two, add-three, add-four)
+returns c = rw (add-one, add-two, add-three, add-four, add-five)
 
 pub put-spec : {M : Type 1} → statement M
 put-spec =
@@ -94,5 +103,8 @@ put-spec =
     add-nodes-4
     mul-nodes-5
     slice-write-nodes-5
+    add-nodes-5
+    mul-nodes-6
+    slice-write-nodes-6
     same-length
     returns)
