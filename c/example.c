@@ -4,8 +4,8 @@
 #include <stdio.h>
 #include <string.h>
 
-#if RULE_READER_VERSION_MAJOR != 3
-#error "written for version 3 of rule_reader.h"
+#if RULE_READER_VERSION < 40000 || RULE_READER_VERSION >= 50000
+#error "written for version 4 of rule_reader.h"
 #endif
 
 /* By number; 14 to 16 are not given. */
@@ -59,7 +59,10 @@ int main(int argc, char **argv)
             printf(" %u", (unsigned)node[RULE_NODE_FIRST]);
         if (kind == RULE_INFIX)
             printf(" %u", (unsigned)node[RULE_NODE_SECOND]);
-        printf(" `%.*s`\n", (int)node[RULE_NODE_LENGTH], (const char *)text + node[RULE_NODE_OFFSET]);
+        printf(" `%.*s`", (int)node[RULE_NODE_LENGTH], (const char *)text + node[RULE_NODE_OFFSET]);
+        if (kind == RULE_PREFIX || kind == RULE_INFIX || kind == RULE_POSTFIX)
+            printf(" precedence %u", (unsigned)node[RULE_NODE_PRECEDENCE]);
+        printf("\n");
     }
 
     answer = rule_canonicalize(text, length, buffer, RULE_BUFFER_BYTES);

@@ -35,15 +35,26 @@
 #include <stdint.h>
 
 /*
- * The version, the same as in c/rule_reader.pc. A change of
+ * The version, the same as in c/rule_reader.pc and in the newest entry of CHANGELOG.md. A change of
  *   - MAJOR: a program written for the former header may not compile, or a text gets another answer, other nodes or another
  *     canonical text;
  *   - MINOR: something is added to this header, and all that was there stays;
  *   - PATCH: neither this header's declarations nor any result has changed.
+ * CHANGELOG.md says for each version what a program has to change. Since 4.0.0 a node has one word more, its precedence, so a
+ * program for an earlier version must be changed and compiled anew.
+ *
+ * RULE_READER_VERSION is one number to compare, 40000 for 4.0.0. Headers before 4.0.0 do not define it, and #if takes it as 0. So a
+ * program says at compile time for which version it was written:
+ *
+ *     #if RULE_READER_VERSION < 40000 || RULE_READER_VERSION >= 50000
+ *     #error "written for version 4 of rule_reader.h"
+ *     #endif
  */
-#define RULE_READER_VERSION_MAJOR 3
+#define RULE_READER_VERSION_MAJOR 4
 #define RULE_READER_VERSION_MINOR 0
 #define RULE_READER_VERSION_PATCH 0
+#define RULE_READER_VERSION \
+    (10000 * RULE_READER_VERSION_MAJOR + 100 * RULE_READER_VERSION_MINOR + RULE_READER_VERSION_PATCH)
 
 #ifdef __cplusplus
 extern "C" {
@@ -52,8 +63,8 @@ extern "C" {
 enum {
     RULE_MAX_TEXT = 16384,      /* bytes of a text; a longer one is refused with RULE_TEXT_TOO_LONG */
     RULE_MAX_NODES = 1024,      /* nodes of a text, at most */
-    RULE_NODE_WORDS = 5,        /* words to a node */
-    RULE_TABLE_WORDS = 5120,    /* words of a node table that is long enough for every text */
+    RULE_NODE_WORDS = 6,        /* words to a node */
+    RULE_TABLE_WORDS = RULE_NODE_WORDS * RULE_MAX_NODES, /* words of a node table that is long enough for every text */
     RULE_BUFFER_BYTES = 16384   /* bytes of a buffer that is long enough for every canonical text */
 };
 
@@ -74,7 +85,7 @@ enum rule_number {
     RULE_TOO_MANY_OPERATORS = 9,     /* a 65th operator is in force; the operator */
     RULE_BAD_OVERLOADING = 10,       /* the roles of an operator do not go together; the `in` */
     RULE_NO_TREE = 11,               /* a span has no tree; 0 for the whole text, the `(`, or the `in`. A blank rule is read */
-    RULE_TABLE_TOO_SHORT = 12,       /* rule_read: the node table is too short; 0 */
+    RULE_TABLE_TOO_SHORT = 12,       /* rule_read: the node table has fewer than RULE_NODE_WORDS words for each node; 0 */
     RULE_CANONICAL_TOO_LONG = 13,    /* rule_canonicalize: the canonical text is over the buffer or 16,384 bytes; 0 */
     RULE_RESERVED_OPERATOR = 17      /* a complete declaration is of `and`, `or` or `not`; the operator */
 };
@@ -90,13 +101,17 @@ struct rule_answer {
     size_t count;
 };
 
-/* The words of a node. Unused ones are 0. */
+/*
+ * The words of a node. Unused ones are 0. The precedence of an operator is that of its role in the declarations in force where it
+ * stands, a number from 1 to 1200; a name, number, bracket or block has 0.
+ */
 enum rule_word {
     RULE_NODE_KIND = 0,
     RULE_NODE_FIRST = 1,     /* number of the first or only child */
     RULE_NODE_SECOND = 2,    /* number of the second child */
     RULE_NODE_OFFSET = 3,    /* part of the text: where, and how many bytes */
-    RULE_NODE_LENGTH = 4
+    RULE_NODE_LENGTH = 4,
+    RULE_NODE_PRECEDENCE = 5 /* of RULE_PREFIX, RULE_INFIX and RULE_POSTFIX */
 };
 
 /* The kinds of a node: its children, and its part of the text. */
@@ -111,9 +126,10 @@ enum rule_kind {
 };
 
 /*
- * Reads a text into a node table. `nodes_length` counts words. Node number i has the words 5 * i to 5 * i + 4. Children come
- * before their parents, left before right; the root is node count - 1. A blank rule has no nodes and no root: look at count
- * before count - 1. Words behind the nodes keep their contents.
+ * Reads a text into a node table. `nodes_length` counts words; those past the last whole node are no part of the table. Node
+ * number i has RULE_NODE_WORDS words, from word RULE_NODE_WORDS * i on, in the order of enum rule_word. Children come before their
+ * parents, left before right; the root is node count - 1. A blank rule has no nodes and no root: look at count before count - 1.
+ * Words behind the nodes keep their contents.
  * Gives RULE_READ and the refusals 1 to 12 and 17. RULE_TABLE_WORDS words are always enough: then never 12.
  */
 struct rule_answer rule_read(const uint8_t *text, size_t text_length, uint32_t *nodes, size_t nodes_length);

@@ -14,10 +14,15 @@
 #include <sys/mman.h>
 #include <unistd.h>
 
+#if RULE_READER_VERSION < 40000 || RULE_READER_VERSION >= 50000
+#error "written for version 4 of rule_reader.h"
+#endif
+
+_Static_assert(RULE_NODE_WORDS == 6 && RULE_NODE_PRECEDENCE == RULE_NODE_WORDS - 1, "six words to a node, the precedence last");
 _Static_assert(sizeof(struct rule_answer) == 24, "size of the answer");
 _Static_assert(offsetof(struct rule_answer, offset) == 8 && offsetof(struct rule_answer, count) == 16, "fields of the answer");
 
-enum { MARGIN = 64, SPARE = 100, LONGEST = 2 * RULE_MAX_TEXT };
+enum { MARGIN = 64, SPARE = 100, LONGEST = 2 * RULE_MAX_TEXT, MAX_PRECEDENCE = 1200 };
 
 /* Room for a text between two pages without access. */
 static uint8_t *text_start, *text_end;
@@ -120,7 +125,10 @@ static void check_answer(const uint8_t *text, size_t length, struct rule_answer 
     by_number[answer.number]++;
 }
 
-/* The nodes of a table, if any, form one tree: each child before its one parent, unused words 0, parts inside the text. */
+/*
+ * The nodes of a table, if any, form one tree: each child before its one parent, unused words 0, parts inside the text. An operator
+ * has a precedence, and no operand has a larger one.
+ */
 static void check_nodes(const uint8_t *text, size_t length, const uint32_t *nodes, size_t count)
 {
     static bool has_parent[RULE_MAX_NODES];
@@ -131,6 +139,10 @@ static void check_nodes(const uint8_t *text, size_t length, const uint32_t *node
         uint32_t kind = node[RULE_NODE_KIND];
         CHECK(kind >= RULE_NAME && kind <= RULE_BLOCK, "node %zu: kind %u", i, (unsigned)kind);
         size_t children = kind <= RULE_NUMBER ? 0 : kind == RULE_INFIX ? 2 : 1;
+        bool operator_node = kind >= RULE_PREFIX && kind <= RULE_POSTFIX;
+        uint32_t precedence = node[RULE_NODE_PRECEDENCE];
+        CHECK(operator_node ? precedence >= 1 && precedence <= MAX_PRECEDENCE : precedence == 0, "node %zu: precedence %u", i,
+              (unsigned)precedence);
         for (size_t c = 0; c < 2; c++) {
             uint32_t child = node[RULE_NODE_FIRST + c];
             if (c >= children) {
@@ -138,6 +150,8 @@ static void check_nodes(const uint8_t *text, size_t length, const uint32_t *node
             } else {
                 CHECK(child < i && !has_parent[child], "node %zu: child %u", i, (unsigned)child);
                 has_parent[child] = true;
+                CHECK(!operator_node || nodes[RULE_NODE_WORDS * child + RULE_NODE_PRECEDENCE] <= precedence,
+                      "node %zu: child %u of larger precedence", i, (unsigned)child);
             }
         }
         size_t offset = node[RULE_NODE_OFFSET], size = node[RULE_NODE_LENGTH];
@@ -267,7 +281,7 @@ static void try_lengths(const void *bytes_of_text, size_t length)
     const uint8_t *text = (const uint8_t *)bytes_of_text;
     struct rule_answer full = call_read(text, length, RULE_TABLE_WORDS);
     size_t needed = RULE_NODE_WORDS * full.count;
-    for (size_t lent = 0; lent <= needed + 12; lent++) {
+    for (size_t lent = 0; lent <= needed + 2 * RULE_NODE_WORDS; lent++) {
         struct rule_answer answer = call_read(text, length, lent);
         int expected = full.number != RULE_READ || lent >= needed ? full.number : RULE_TABLE_TOO_SHORT;
         CHECK(answer.number == expected, "rule_read into %zu words: %d", lent, answer.number);
@@ -506,7 +520,11 @@ static void try_blank(void)
 static void try_cases(void)
 {
     static const uint32_t nodes[] = {
-        RULE_NAME, 0, 0, 0, 1, RULE_NAME, 0, 0, 4, 1, RULE_NUMBER, 0, 0, 8, 1, RULE_INFIX, 1, 2, 6, 1, RULE_INFIX, 0, 3, 2, 1,
+        RULE_NAME, 0, 0, 0, 1, 0,
+        RULE_NAME, 0, 0, 4, 1, 0,
+        RULE_NUMBER, 0, 0, 8, 1, 0,
+        RULE_INFIX, 1, 2, 6, 1, 300,
+        RULE_INFIX, 0, 3, 2, 1, 400,
     };
     static const char *const canonical[][2] = {
         {"a + b * 3", "a + b * 3"}, {"((a)) * (b + c)", "a * ( b + c )"}, {"'not' = '12'", "'not' = '12'"},
@@ -523,6 +541,71 @@ static void try_cases(void)
         answer = call_canonicalize(text, length, RULE_BUFFER_BYTES);
         CHECK(answer.count == strlen(canonical[i][1]) && memcmp(canonical[i][1], bytes + MARGIN, answer.count) == 0,
               "canonical text, count %zu", answer.count);
+    }
+}
+
+/* The precedences of a text's nodes, in the order of the table: document 02's sixth word. */
+static void expect_precedences(const char *string, const uint32_t *expected, size_t count)
+{
+    const uint8_t *text = (const uint8_t *)string;
+    size_t length = strlen(string);
+    struct rule_answer answer = call_read(text, length, RULE_TABLE_WORDS);
+    CHECK(answer.number == RULE_READ && answer.count == count, "answer %d, count %zu", answer.number, answer.count);
+    for (size_t i = 0; i < count; i++) {
+        uint32_t found = table[MARGIN + RULE_NODE_WORDS * i + RULE_NODE_PRECEDENCE];
+        CHECK(found == expected[i], "node %zu: precedence %u, expected %u", i, (unsigned)found, (unsigned)expected[i]);
+    }
+    try_lengths(text, length);
+}
+
+#define PRECEDENCES(string, ...) \
+    expect_precedences(string, (const uint32_t[]){__VA_ARGS__}, sizeof((const uint32_t[]){__VA_ARGS__}) / sizeof(uint32_t))
+
+/* Each starting operator in each of its roles, operators of several roles, blocks that declare an operator anew. */
+static void try_precedences(void)
+{
+    PRECEDENCES("a or b", 0, 0, 800);
+    PRECEDENCES("a and b", 0, 0, 700);
+    PRECEDENCES("not a", 0, 600);
+    PRECEDENCES("a = b", 0, 0, 500);
+    PRECEDENCES("a < b", 0, 0, 500);
+    PRECEDENCES("a + b", 0, 0, 400);
+    PRECEDENCES("a - b", 0, 0, 400);
+    PRECEDENCES("- a", 0, 400);
+    PRECEDENCES("a * b", 0, 0, 300);
+    PRECEDENCES("'not' = '12'", 0, 0, 500);
+    PRECEDENCES("((a)) * (b + c)", 0, 0, 0, 0, 0, 400, 0, 300);
+    PRECEDENCES("let in - 007 end", 0, 400, 0);
+    PRECEDENCES("let infix left 1 x ; in a x b end", 0, 0, 1, 0);
+    PRECEDENCES("let postfix non 001200 x ; in a x end", 0, 1200, 0);
+    PRECEDENCES("let prefix right 0400 x ; in x x 'x' end", 0, 400, 400, 0);
+    PRECEDENCES("let infix left 450 s ; prefix non 450 s ; postfix left 450 s ; in s a s b s end", 0, 450, 0, 450, 450, 0);
+    PRECEDENCES("let infix left 450 s ; postfix left 450 s ; in a s - b end", 0, 0, 400, 450, 0);
+    PRECEDENCES("let infix left 350 s ; postfix left 350 s ; in a s - b end", 0, 350, 0, 400, 0);
+    /* The outer precedence before a block and behind it, the new one inside. */
+    PRECEDENCES("a + let infix left 250 + ; in b + c end + d", 0, 0, 0, 250, 0, 400, 0, 400);
+    PRECEDENCES("let infix left 1 x ; in a x let infix left 2 x ; in b x c end x d end", 0, 0, 0, 2, 0, 1, 0, 1, 0);
+    PRECEDENCES("let plain + ; in + end + x", 0, 0, 0, 400);
+}
+
+/*
+ * `a` has one node. One word short of a node it is refused with 12, and nothing changes; with a node's words it is read; words past
+ * the last whole node change nothing.
+ */
+static void try_short_tables(void)
+{
+    static const uint32_t node[RULE_NODE_WORDS] = {RULE_NAME, 0, 0, 0, 1, 0};
+    const uint8_t *text = (const uint8_t *)"a";
+    size_t length = 1;
+    for (size_t lent = 0; lent <= 2 * RULE_NODE_WORDS; lent++) {
+        struct rule_answer answer = call_read(text, length, lent);
+        if (lent < RULE_NODE_WORDS) {
+            CHECK(answer.number == RULE_TABLE_TOO_SHORT && answer.offset == 0 && answer.count == 0, "`a` into %zu words: %d", lent,
+                  answer.number);
+        } else {
+            CHECK(answer.number == RULE_READ && answer.count == 1 && memcmp(node, table + MARGIN, sizeof node) == 0,
+                  "`a` into %zu words: %d", lent, answer.number);
+        }
     }
 }
 
@@ -562,6 +645,8 @@ int main(void)
     text_end = text_start + room;
 
     try_cases();
+    try_precedences();
+    try_short_tables();
     try_empty();
     try_limits();
     try_blank();

@@ -1,7 +1,7 @@
 //! Time per call on fixed texts, best of several runs.
 
 use rule_bench::listing;
-use rule_bench::reader::{self, Answer, MAX_BYTES, MAX_TOKENS, NODE_WORDS};
+use rule_bench::reader::{self, Answer, MAX_BYTES, TABLE_WORDS};
 use std::fmt::Write;
 use std::hint::black_box;
 use std::time::{Duration, Instant};
@@ -115,7 +115,7 @@ pub fn print_rows() -> Result<(), String> {
 }
 
 pub fn run() -> Result<(), String> {
-    times(["reading", "nodes"], READ, &mut [0; NODE_WORDS * MAX_TOKENS])?;
+    times(["reading", "nodes"], READ, &mut [0; TABLE_WORDS])?;
     println!();
     times(["canonical text", "written"], CANONICALIZE, &mut [0; MAX_BYTES])
 }

@@ -3,7 +3,7 @@
 
 use crate::archive;
 use rule_bench::listing;
-use rule_bench::reader::{self, Answer, MAX_TOKENS, NODE_WORDS};
+use rule_bench::reader::{self, Answer, NODE_WORDS, TABLE_WORDS};
 use rule_bench::texts::{Random, Texts};
 
 const MAX_SHOWN: u64 = 10;
@@ -16,7 +16,7 @@ pub fn run(seed: u64, n: u64) -> Result<(), String> {
         calls: [reader::read, archive::read],
         item: |bits| (bits >> 32) as u32,
         items: NODE_WORDS,
-        full: NODE_WORDS * MAX_TOKENS,
+        full: TABLE_WORDS,
         by_number: [0; 18],
         differ: 0,
     };

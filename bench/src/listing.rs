@@ -1,6 +1,7 @@
-//! Hexadecimal lines, and the listing of a text in document 01's format.
+//! Hexadecimal lines, and the listing of a text in document 01's format, with
+//! the precedence of each node as document 02 adds it.
 
-use crate::reader::{self, MAX_BYTES, MAX_TOKENS, NODE_WORDS};
+use crate::reader::{self, MAX_BYTES, NODE_WORDS, TABLE_WORDS};
 use std::fmt::Write;
 
 const KINDS: [&str; 8] = ["", "name", "number", "prefix", "infix", "postfix", "bracket", "block"];
@@ -24,7 +25,7 @@ pub fn of(text: &[u8]) -> String {
 
 /// The listing of a text's reading alone.
 pub fn reading(text: &[u8]) -> String {
-    let mut nodes = [0; NODE_WORDS * MAX_TOKENS];
+    let mut nodes = [0; TABLE_WORDS];
     let answer = reader::read(text, &mut nodes);
     if answer.number != 0 {
         return format!("refused {} at {}\n", answer.number, answer.offset);
@@ -32,7 +33,9 @@ pub fn reading(text: &[u8]) -> String {
     let mut listing = format!("read {}\n", answer.count);
     for (i, row) in nodes.chunks(NODE_WORDS).take(answer.count).enumerate() {
         let kind = KINDS[row[0] as usize];
-        writeln!(listing, "{i} {kind} {} {} {} {}", row[1], row[2], row[3], row[4]).unwrap();
+        write!(listing, "{i} {kind}").unwrap();
+        row[1..].iter().for_each(|word| write!(listing, " {word}").unwrap());
+        listing.push('\n');
     }
     listing
 }

@@ -1,5 +1,6 @@
-//! The reader of document 01, with document 02's reserved operators and blank
-//! rules: a text in, a node table or canonical text out.
+//! The reader of document 01, with document 02's reserved operators, blank
+//! rules and precedences of nodes: a text in, a node table or canonical text
+//! out.
 //!
 //! Four linear passes: tokens (checks 1 to 5), nesting (6, 7), operators in
 //! force (8, 17, 9, 10), trees (11). Nothing is written before check 12, or 13
@@ -24,7 +25,11 @@ pub const MAX_TOKENS: usize = 1024;
 pub const MAX_DEPTH: usize = 32;
 pub const MAX_OPERATORS: usize = 64;
 pub const MAX_PRECEDENCE: u32 = 1200;
-pub const NODE_WORDS: usize = 5;
+/// Each node has a token of its own.
+pub const MAX_NODES: usize = MAX_TOKENS;
+pub const NODE_WORDS: usize = 6;
+/// Words of a node table that is long enough for every text.
+pub const TABLE_WORDS: usize = NODE_WORDS * MAX_NODES;
 
 /// Read: number 0, offset 0, count nodes or bytes written, 0 of a blank rule.
 /// Rejected: the check's number, its offset, count 0.
@@ -108,7 +113,7 @@ pub fn analyze(
     tree::build(tokens, tree)
 }
 
-/// Check 12, then five words for each node. How many nodes.
+/// Check 12, then the words of each node. How many nodes.
 fn write(tokens: &[Token], tree: &[Node], nodes: &mut [u32]) -> Result<usize, Reject> {
     if nodes.len() / NODE_WORDS < tree.len() {
         return Err(Reject::new(12, 0));
@@ -120,26 +125,37 @@ fn write(tokens: &[Token], tree: &[Node], nodes: &mut [u32]) -> Result<usize, Re
     Ok(tree.len())
 }
 
-/// Kind, first child, second child, offset, length. The last child of a node
-/// is always the node before it.
+/// Kind, first child, second child, offset, length, precedence. The last child
+/// of a node is always the node before it.
 #[inline(always)]
 fn words(tokens: &[Token], node: Node, number: u32) -> [u32; NODE_WORDS] {
     let token = tokens[node.token as usize];
     let start = u32::from(token.start);
     let len = u32::from(token.len);
     let last = number.wrapping_sub(1);
+    let precedence = precedence(token);
     match node.kind {
-        NodeKind::Name if matches!(token.kind, Kind::Quoted { .. }) => [1, 0, 0, start + 1, len - 2],
-        NodeKind::Name => [1, 0, 0, start, len],
-        NodeKind::Number => [2, 0, 0, start, len],
-        NodeKind::Prefix => [3, last, 0, start, len],
-        NodeKind::Infix => [4, u32::from(node.left), last, start, len],
-        NodeKind::Postfix => [5, last, 0, start, len],
-        NodeKind::Bracket => [6, last, 0, 0, 0],
+        NodeKind::Name if matches!(token.kind, Kind::Quoted { .. }) => [1, 0, 0, start + 1, len - 2, 0],
+        NodeKind::Name => [1, 0, 0, start, len, 0],
+        NodeKind::Number => [2, 0, 0, start, len, 0],
+        NodeKind::Prefix => [3, last, 0, start, len, precedence],
+        NodeKind::Infix => [4, u32::from(node.left), last, start, len, precedence],
+        NodeKind::Postfix => [5, last, 0, start, len, precedence],
+        NodeKind::Bracket => [6, last, 0, 0, 0, 0],
         NodeKind::Block => {
             let Kind::Let { body } = token.kind else { unreachable!() };
             let end = u32::from(tokens[body as usize].start) + 2;
-            [7, last, 0, start, end - start]
+            [7, last, 0, start, end - start, 0]
         }
+    }
+}
+
+/// The precedence of an operator where it stands, 0 of any other token. All
+/// its roles in force there have this one, so the role in use does.
+#[inline(always)]
+fn precedence(token: Token) -> u32 {
+    match token.kind {
+        Kind::Operator { precedence, .. } => u32::from(precedence),
+        _ => 0,
     }
 }

@@ -4,7 +4,7 @@
 //! 11 as before.
 
 use rule_bench::listing;
-use rule_bench::reader::{Answer, MAX_BYTES, canonicalize, read};
+use rule_bench::reader::{Answer, MAX_BYTES, NODE_WORDS, TABLE_WORDS, canonicalize, read};
 use rule_bench::texts::{Random, Texts};
 use std::fs::read_to_string;
 
@@ -13,7 +13,7 @@ const BLANKS: [u8; 4] = [9, 10, 13, 32];
 /// Both services give this answer with count 0 and change nothing, however
 /// many words or bytes are lent.
 fn nothing_written(text: &[u8], number: u8, offset: usize) {
-    for len in [0, 1, 4, 5, 6, 11, 5120, 16_384, 16_500] {
+    for len in [0, 1, NODE_WORDS - 1, NODE_WORDS, 2 * NODE_WORDS - 1, TABLE_WORDS, MAX_BYTES, 16_500] {
         let words: Vec<u32> = (0..len as u32).map(|i| 0xA5A5_0000 ^ i).collect();
         let bytes: Vec<u8> = (0..len).map(|i| 0xA5 ^ (i % 251) as u8).collect();
         let (mut nodes, mut buffer) = (words.clone(), bytes.clone());
@@ -40,13 +40,13 @@ fn refused(number: u8, before: impl AsRef<[u8]>, from: impl AsRef<[u8]>) {
 /// Read with one node, a name or number of one token.
 fn one_node(before: &[u8], token: &str, behind: &[u8]) {
     let text = [before, token.as_bytes(), behind].concat();
-    let Answer { number, offset, count } = read(&text, &mut [0; 5]);
+    let Answer { number, offset, count } = read(&text, &mut [0; NODE_WORDS]);
     assert_eq!((number, offset, count), (0, 0, 1), "{token}");
     let mut buffer = [0; 100];
     let answer = canonicalize(&text, &mut buffer);
     assert_eq!(&buffer[..answer.count], token.as_bytes());
-    // It needs five words and its bytes.
-    assert_eq!(read(&text, &mut [0; 4]), Answer { number: 12, offset: 0, count: 0 });
+    // It needs the words of a node and its bytes.
+    assert_eq!(read(&text, &mut [0; NODE_WORDS - 1]), Answer { number: 12, offset: 0, count: 0 });
     assert_eq!(canonicalize(&text, &mut []), Answer { number: 13, offset: 0, count: 0 });
 }
 
@@ -195,7 +195,7 @@ fn empty_block_body() {
     refused(10, "let infix right 400 - ; ", "in end");
     refused(17, "let plain ", "and ; in end");
     // A name is enough of a body.
-    assert_eq!(listing::reading(b"let in a end"), "read 2\n0 name 0 0 7 1\n1 block 0 0 0 6\n");
+    assert_eq!(listing::reading(b"let in a end"), "read 2\n0 name 0 0 7 1 0\n1 block 0 0 0 6 0\n");
 }
 
 /// The canonical text of a blank rule is a blank rule, and its own.
@@ -219,7 +219,7 @@ fn agree_with_each_other_only() {
     let mut texts = Texts::new(31);
     let (mut blank, mut other) = (0, 0);
     for text in recorded.chain((0..20_000).map(|_| texts.next())) {
-        let answers = [read(&text, &mut [0; 5120]), canonicalize(&text, &mut [0; MAX_BYTES])];
+        let answers = [read(&text, &mut [0; TABLE_WORDS]), canonicalize(&text, &mut [0; MAX_BYTES])];
         let is_blank = text.iter().all(|byte| BLANKS.contains(byte));
         if is_blank {
             let expected = if text.len() <= MAX_BYTES { (0, 0) } else { (1, 16_384) };
@@ -256,14 +256,14 @@ fn blanks_round_a_rule() {
 #[test]
 fn listings_are_split() {
     let nobody = "read 0\ntidy 0\n\n";
-    let name = "read 1\n0 name 0 0 0 1\ntidy 1\na\n";
-    let too_long = "read 1\n0 name 0 0 0 1\nrefused 13 at 0\n";
+    let name = "read 1\n0 name 0 0 0 1 0\ntidy 1\na\n";
+    let too_long = "read 1\n0 name 0 0 0 1 0\nrefused 13 at 0\n";
     let refused = "refused 2 at 0\n";
     for listings in [
         vec![nobody],
         vec![nobody, nobody, name, nobody, refused, nobody],
         vec![name, nobody, too_long, nobody, too_long, refused, refused, nobody, name],
-        vec!["read 0\n", "read 0\n", refused, "read 0\n", "read 1\n0 name 0 0 0 1\n", "read 0\n"],
+        vec!["read 0\n", "read 0\n", refused, "read 0\n", "read 1\n0 name 0 0 0 1 0\n", "read 0\n"],
     ] {
         assert_eq!(listing::split(&listings.concat()), listings);
     }

@@ -3,7 +3,7 @@
 //! leading zero. There is only one such text for a tree. By document 02 blank
 //! rules agree with each other and with no other rule.
 
-use rule_bench::reader::{self, Answer, MAX_BYTES};
+use rule_bench::reader::{self, Answer, MAX_BYTES, NODE_WORDS, TABLE_WORDS};
 use rule_bench::texts::{Random, Texts};
 use std::collections::HashMap;
 
@@ -19,12 +19,12 @@ enum Tree {
     Block(Vec<Vec<u8>>, Box<Tree>),
 }
 
-type Nodes = Vec<[u32; 5]>;
+type Nodes = Vec<[u32; NODE_WORDS]>;
 
 fn nodes(text: &[u8]) -> Result<Nodes, Answer> {
-    let mut words = [0; 5120];
+    let mut words = [0; TABLE_WORDS];
     let answer = reader::read(text, &mut words);
-    let nodes = words.as_chunks::<5>().0[..answer.count].to_vec();
+    let nodes = words.as_chunks().0[..answer.count].to_vec();
     if answer.number == 0 { Ok(nodes) } else { Err(answer) }
 }
 
@@ -35,7 +35,7 @@ fn tree(text: &[u8]) -> Option<Tree> {
 }
 
 fn subtree(text: &[u8], nodes: &Nodes, node: usize) -> Tree {
-    let [kind, first, second, offset, len] = nodes[node];
+    let [kind, first, second, offset, len, _] = nodes[node];
     let bytes = &text[offset as usize..][..len as usize];
     let child = |node: u32| subtree(text, nodes, node as usize);
     match kind {
@@ -160,7 +160,7 @@ fn check(text: &[u8], written: &[u8], seen: &mut Seen) {
 
 /// Does the name stand without quotes somewhere in the text?
 fn stands_bare(text: &[u8], name: &[u8]) -> bool {
-    nodes(text).unwrap().iter().any(|&[kind, _, _, offset, len]| {
+    nodes(text).unwrap().iter().any(|&[kind, _, _, offset, len, _]| {
         let offset = offset as usize;
         let bare = offset == 0 || text[offset - 1] != b'\'';
         kind == 1 && bare && text[offset..][..len as usize] == *name

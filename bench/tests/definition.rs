@@ -1,7 +1,7 @@
 //! The reader against all trees of a span, enumerated from document 01's
-//! definition. Also: no span has two.
+//! definition, each node with its level. Also: no span has two.
 
-use rule_bench::reader;
+use rule_bench::reader::{self, NODE_WORDS, TABLE_WORDS};
 use rule_bench::texts::Random;
 use std::fmt::Write;
 
@@ -43,6 +43,7 @@ fn random_mark(random: &mut Random, levels: u64) -> Mark {
     }
 }
 
+/// The shape has for each node what it is, its item's position and its level.
 struct Tree {
     level: u32,
     right: bool,
@@ -55,7 +56,7 @@ const LEAF: u64 = u64::MAX;
 fn trees(marks: &[Mark], items: &[u64], from: usize, to: usize) -> Vec<Tree> {
     let mut found = Vec::new();
     if to - from == 1 && items[from] == LEAF {
-        found.push(Tree { level: 0, right: false, shape: format!("{from}") });
+        found.push(Tree { level: 0, right: false, shape: format!("{from}:0") });
     }
     for at in from..to {
         if items[at] == LEAF {
@@ -68,20 +69,21 @@ fn trees(marks: &[Mark], items: &[u64], from: usize, to: usize) -> Vec<Tree> {
         let after = || trees(marks, items, at + 1, to);
         if let (Some(side), true) = (sides[0], at == from) {
             for t in after().iter().filter(|t| on_right(side, t)) {
-                found.push(Tree { level, right: side == Right, shape: format!("(3@{at} {})", t.shape) });
+                let shape = format!("(3@{at}:{level} {})", t.shape);
+                found.push(Tree { level, right: side == Right, shape });
             }
         }
         if let Some(side) = sides[1] {
             for l in before().iter().filter(|t| on_left(side, t)) {
                 for r in after().iter().filter(|t| on_right(side, t)) {
-                    let shape = format!("(4@{at} {} {})", l.shape, r.shape);
+                    let shape = format!("(4@{at}:{level} {} {})", l.shape, r.shape);
                     found.push(Tree { level, right: side == Right, shape });
                 }
             }
         }
         if let (Some(side), true) = (sides[2], at + 1 == to) {
             for t in before().iter().filter(|t| on_left(side, t)) {
-                found.push(Tree { level, right: false, shape: format!("(5@{at} {})", t.shape) });
+                found.push(Tree { level, right: false, shape: format!("(5@{at}:{level} {})", t.shape) });
             }
         }
     }
@@ -102,15 +104,16 @@ fn head(marks: &[Mark]) -> String {
     text + "in"
 }
 
-/// The tree below a node; items by their position.
+/// The tree below a node, as `Tree` has its shape.
 fn shape(nodes: &[u32], node: usize, first: usize) -> String {
-    let [kind, left, right, offset, _] = nodes[5 * node..][..5] else { unreachable!() };
+    let row = &nodes[NODE_WORDS * node..][..NODE_WORDS];
+    let &[kind, left, right, offset, _, level] = row else { unreachable!() };
     let at = (offset as usize).wrapping_sub(first) / 3;
     let child = |node| shape(nodes, node as usize, first);
     match kind {
-        1 => format!("{at}"),
-        4 => format!("(4@{at} {} {})", child(left), child(right)),
-        _ => format!("({kind}@{at} {})", child(left)),
+        1 => format!("{at}:{level}"),
+        4 => format!("(4@{at}:{level} {} {})", child(left), child(right)),
+        _ => format!("({kind}@{at}:{level} {})", child(left)),
     }
 }
 
@@ -123,14 +126,14 @@ fn check(marks: &[Mark], head: &str, items: &[u64]) -> bool {
     text += " end";
     let expected = trees(marks, items, 0, items.len());
     assert!(expected.len() < 2, "two trees: {text}");
-    let mut nodes = [0; 5120];
+    let mut nodes = [0; TABLE_WORDS];
     let answer = reader::read(text.as_bytes(), &mut nodes);
     match expected.first() {
         None => assert_eq!((answer.number, answer.offset), (11, head.len() - 2), "{text}"),
         Some(tree) => {
             assert_eq!((answer.number, answer.count), (0, items.len() + 1), "{text}");
-            let block = &nodes[5 * items.len()..][..5];
-            assert_eq!(block, [7, items.len() as u32 - 1, 0, 0, head.len() as u32]);
+            let block = &nodes[NODE_WORDS * items.len()..][..NODE_WORDS];
+            assert_eq!(block, [7, items.len() as u32 - 1, 0, 0, head.len() as u32, 0]);
             assert_eq!(tree.shape, shape(&nodes, items.len() - 1, head.len() + 1), "{text}");
         }
     }

@@ -2,7 +2,7 @@
 //! refused with 17, at the operator. For each declaration 8 comes first, then
 //! 17, then 9; for each block 10 comes behind its declarations.
 
-use rule_bench::reader::{Answer, canonicalize, read};
+use rule_bench::reader::{Answer, MAX_BYTES, TABLE_WORDS, canonicalize, read};
 
 const RESERVED: [&str; 3] = ["and", "or", "not"];
 
@@ -16,7 +16,7 @@ const FORMS: [&str; 8] = [
 /// leaves both buffers as they were, however long they are.
 fn answer(text: &str) -> (u8, usize) {
     let mut given = Vec::new();
-    for len in [0, 1, 5120, 16_384] {
+    for len in [0, 1, TABLE_WORDS, MAX_BYTES] {
         let (mut nodes, mut buffer) = (vec![0xA5A5_5A5A; len], vec![0xA5; len]);
         let answers = [read(text.as_bytes(), &mut nodes), canonicalize(text.as_bytes(), &mut buffer)];
         for Answer { number, offset, count } in answers {

@@ -2,9 +2,11 @@
 //! copied for each block, and trees by a search for the root.
 
 use rule_bench::listing;
+use rule_bench::reader::NODE_WORDS;
 use rule_bench::texts::Texts;
 use std::collections::HashMap;
 use std::fmt::Write;
+use std::fs::read_to_string;
 
 type Refusal = (u32, usize);
 /// Level and side ('n', 'l', 'r') as prefix, infix, postfix.
@@ -182,7 +184,7 @@ struct Reader {
     closers: HashMap<usize, usize>,
     ins: HashMap<usize, usize>,
     roles: Vec<Option<Roles>>,
-    nodes: Vec<[usize; 5]>,
+    nodes: Vec<[usize; NODE_WORDS]>,
 }
 
 /// Root of a tree: node number, level, right-sided.
@@ -223,7 +225,7 @@ impl Reader {
             (_, true) => 2,
             _ => 1,
         };
-        let side = items[root].roles.unwrap()[fixity]?.1;
+        let (own_level, side) = items[root].roles.unwrap()[fixity]?;
         let mut children = [0; 2];
         if fixity != 0 {
             let (node, below, right) = self.tree(&items[..root], deep)?;
@@ -240,7 +242,9 @@ impl Reader {
             }
         }
         let token = &self.tokens[items[root].at];
-        self.nodes.push([3 + fixity, children[0], children[1], token.start, token.bytes.len()]);
+        // Document 02: the level of the mark's role.
+        let [first, second] = children;
+        self.nodes.push([3 + fixity, first, second, token.start, token.bytes.len(), own_level as usize]);
         Some((self.nodes.len() - 1, level, side == 'r'))
     }
 
@@ -254,17 +258,17 @@ impl Reader {
             0
         };
         self.nodes.push(match class {
-            '0' => [2, 0, 0, start, len],
-            '\'' => [1, 0, 0, start + 1, len - 2],
-            '(' => [6, inner, 0, 0, 0],
-            _ if block => [7, inner, 0, start, self.tokens[self.ins[&at]].start + 2 - start],
-            _ => [1, 0, 0, start, len],
+            '0' => [2, 0, 0, start, len, 0],
+            '\'' => [1, 0, 0, start + 1, len - 2, 0],
+            '(' => [6, inner, 0, 0, 0, 0],
+            _ if block => [7, inner, 0, start, self.tokens[self.ins[&at]].start + 2 - start, 0],
+            _ => [1, 0, 0, start, len, 0],
         });
         self.nodes.len() - 1
     }
 }
 
-fn slow(text: &[u8]) -> Result<Vec<[usize; 5]>, Refusal> {
+fn slow(text: &[u8]) -> Result<Vec<[usize; NODE_WORDS]>, Refusal> {
     let tokens = tokens(text)?;
     // Document 02: a blank rule is read, without nodes.
     if tokens.is_empty() {
@@ -309,8 +313,8 @@ fn slow_listing(text: &[u8]) -> String {
         Err((number, place)) => format!("refused {number} at {place}\n"),
         Ok(nodes) => {
             let mut listing = format!("read {}\n", nodes.len());
-            for (i, [kind, first, second, offset, len]) in nodes.into_iter().enumerate() {
-                writeln!(listing, "{i} {} {first} {second} {offset} {len}", KINDS[kind]).unwrap();
+            for (i, [kind, first, second, offset, len, level]) in nodes.into_iter().enumerate() {
+                writeln!(listing, "{i} {} {first} {second} {offset} {len} {level}", KINDS[kind]).unwrap();
             }
             listing
         }
@@ -323,5 +327,17 @@ fn same_listing() {
     for _ in 0..60_000 {
         let text = texts.next();
         assert_eq!(listing::reading(&text), slow_listing(&text), "{}", String::from_utf8_lossy(&text));
+    }
+}
+
+/// The texts of programs `cases` and `documented`.
+#[test]
+fn same_listing_of_stored_texts() {
+    for program in ["cases", "documented"] {
+        let path = format!("{}/../crates/{program}/stdin", env!("CARGO_MANIFEST_DIR"));
+        for line in read_to_string(&path).expect(&path).lines() {
+            let text = listing::from_hex(line).expect("hexadecimal");
+            assert_eq!(listing::reading(&text), slow_listing(&text), "{}", String::from_utf8_lossy(&text));
+        }
     }
 }

@@ -2,7 +2,7 @@
 //! to the node table: a rejection changes nothing, a reading only its own
 //! words.
 
-use rule_bench::reader::{Answer, read};
+use rule_bench::reader::{Answer, MAX_BYTES, NODE_WORDS, TABLE_WORDS, read};
 use rule_bench::texts::{Random, Texts};
 
 const PATTERN: u32 = 0xA5A5_5A5A;
@@ -18,7 +18,7 @@ fn every_check_occurs() {
     let mut seen = [0; 18];
     let mut texts = Texts::new(3);
     for _ in 0..40_000 {
-        seen[read(&texts.next(), &mut [0; 5120]).number as usize] += 1;
+        seen[read(&texts.next(), &mut [0; TABLE_WORDS]).number as usize] += 1;
     }
     println!("answers by number: {seen:?}");
     let given = |number| number < 12 || number == 17;
@@ -54,13 +54,14 @@ fn node_table() {
     let mut random = Random::new(5);
     for _ in 0..40_000 {
         let text = texts.next();
-        let mut full = [PATTERN; 5136];
+        let mut full = [PATTERN; TABLE_WORDS + 2 * NODE_WORDS];
         let answer = read(&text, &mut full);
-        let words = 5 * answer.count;
+        let words = NODE_WORDS * answer.count;
         assert!(full[words..].iter().all(|&word| word == PATTERN));
-        let blank = is_blank(&text) && text.len() <= 16_384;
+        let blank = is_blank(&text) && text.len() <= MAX_BYTES;
         assert_eq!(answer.number == 0, answer.count > 0 || blank);
-        for len in [words + random.index(9), words, words.saturating_sub(1 + random.index(7))] {
+        let (more, fewer) = (random.index(2 * NODE_WORDS), 1 + random.index(NODE_WORDS));
+        for len in [words + more, words, words.saturating_sub(fewer)] {
             let mut nodes = vec![PATTERN; len];
             let short = read(&text, &mut nodes);
             if len >= words {

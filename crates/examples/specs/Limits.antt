@@ -106,21 +106,23 @@ limits =
     ∷ refusal (bytes "let infix left 300 - ; in a end") 10 23
     ∷ refusal (bytes "3a") 11 0
     -- Lent buffers just long enough, and one word or byte short.
-    ∷ record { text = bytes "a"; words = 5; room = 1; reading = answer 0 0 1; canonicalizing = answer 0 0 1 }
-    ∷ record { text = bytes "a"; words = 4; room = 0; reading = answer 12 0 0; canonicalizing = answer 13 0 0 }
-    ∷ record { text = bytes "a+b"; words = 15; room = 5; reading = answer 0 0 3; canonicalizing = answer 0 0 5 }
-    ∷ record { text = bytes "a+b"; words = 14; room = 4; reading = answer 12 0 0; canonicalizing = answer 13 0 0 }
+    ∷ record { text = bytes "a"; words = 6; room = 1; reading = answer 0 0 1; canonicalizing = answer 0 0 1 }
+    ∷ record { text = bytes "a"; words = 5; room = 0; reading = answer 12 0 0; canonicalizing = answer 13 0 0 }
+    ∷ record { text = bytes "a+b"; words = 18; room = 5; reading = answer 0 0 3; canonicalizing = answer 0 0 5 }
+    ∷ record { text = bytes "a+b"; words = 17; room = 4; reading = answer 12 0 0; canonicalizing = answer 13 0 0 }
+    -- Words past the last whole node change nothing.
+    ∷ record { text = bytes "a"; words = 11; room = 1; reading = answer 0 0 1; canonicalizing = answer 0 0 1 }
     -- A canonical text of 16,384 bytes passes; one byte more is refused whatever the buffer.
     ∷ record {
       text = longNames 248 ++ repeated 16 (bytes "y");
-      words = 2485;
+      words = 2982;
       room = 16384;
       reading = answer 0 0 497;
       canonicalizing = answer 0 0 16384;
     }
     ∷ record {
       text = longNames 248 ++ repeated 17 (bytes "y");
-      words = 2485;
+      words = 2982;
       room = 20000;
       reading = answer 0 0 497;
       canonicalizing = answer 13 0 0;

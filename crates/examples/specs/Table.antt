@@ -1,5 +1,5 @@
--- Document 01, "Table cases, proved": T1 to T14 as one table, T1 as document 02, §7, has it: what reading and canonicalizing answer, and what they leave in
--- buffers of 40 words and 80 bytes that were filled with 7.
+-- Document 01, "Table cases, proved": T1 to T14 as one table, T1 as document 02, §7, has it, the sixth word as §6 has it: what reading
+-- and canonicalizing answer, and what they leave in buffers of 48 words and 80 bytes that were filled with 7.
 use mathlib.Core.List.{List, [], _∷_, _++_}
 use Prim.Native.Nat.{ℕ}
 use lib.ListN.{length, drop, replicate}
@@ -21,7 +21,7 @@ pub record Both : Type 0 where
   pub canonicalizing : Result
 
 abbrev pub nodeTable : List ℕ
-nodeTable = replicate 40 7
+nodeTable = replicate 48 7
 
 abbrev pub textBuffer : List ℕ
 textBuffer = replicate 80 7
@@ -43,42 +43,42 @@ asked (reads n ws text) =
     }
 asked (refuses n p) = record { reading = result n p 0 nodeTable; canonicalizing = result n p 0 textBuffer }
 
--- A node: kind, first child, second child, offset, length.
-abbrev pub node : ℕ → ℕ → ℕ → ℕ → ℕ → List ℕ → List ℕ
-node kind first second offset size rest = kind ∷ first ∷ second ∷ offset ∷ size ∷ rest
+-- A node: kind, first child, second child, offset, length, precedence.
+abbrev pub node : ℕ → ℕ → ℕ → ℕ → ℕ → ℕ → List ℕ → List ℕ
+node kind first second offset size precedence rest = kind ∷ first ∷ second ∷ offset ∷ size ∷ precedence ∷ rest
 
 abbrev pub table : List Example
 table =
     -- T1
     record { text = bytes ""; expected = reads 0 [] (bytes "") }
     -- T2
-    ∷ record { text = bytes "a"; expected = reads 1 (node 1 0 0 0 1 []) (bytes "a") }
+    ∷ record { text = bytes "a"; expected = reads 1 (node 1 0 0 0 1 0 []) (bytes "a") }
     -- T3
-    ∷ record { text = bytes "a + b * 3"; expected = reads 5 (node 1 0 0 0 1 (node 1 0 0 4 1 (node 2 0 0 8 1 (node 4 1 2 6 1 (node 4 0 3 2 1 []))))) (bytes "a + b * 3") }
+    ∷ record { text = bytes "a + b * 3"; expected = reads 5 (node 1 0 0 0 1 0 (node 1 0 0 4 1 0 (node 2 0 0 8 1 0 (node 4 1 2 6 1 300 (node 4 0 3 2 1 400 []))))) (bytes "a + b * 3") }
     -- T4
-    ∷ record { text = bytes "a - b - c"; expected = reads 5 (node 1 0 0 0 1 (node 1 0 0 4 1 (node 4 0 1 2 1 (node 1 0 0 8 1 (node 4 2 3 6 1 []))))) (bytes "a - b - c") }
+    ∷ record { text = bytes "a - b - c"; expected = reads 5 (node 1 0 0 0 1 0 (node 1 0 0 4 1 0 (node 4 0 1 2 1 400 (node 1 0 0 8 1 0 (node 4 2 3 6 1 400 []))))) (bytes "a - b - c") }
     -- T5
-    ∷ record { text = bytes "- a + b"; expected = reads 4 (node 1 0 0 2 1 (node 3 0 0 0 1 (node 1 0 0 6 1 (node 4 1 2 4 1 [])))) (bytes "- a + b") }
+    ∷ record { text = bytes "- a + b"; expected = reads 4 (node 1 0 0 2 1 0 (node 3 0 0 0 1 400 (node 1 0 0 6 1 0 (node 4 1 2 4 1 400 [])))) (bytes "- a + b") }
     -- T6
-    ∷ record { text = bytes "- a * b"; expected = reads 4 (node 1 0 0 2 1 (node 1 0 0 6 1 (node 4 0 1 4 1 (node 3 2 0 0 1 [])))) (bytes "- a * b") }
+    ∷ record { text = bytes "- a * b"; expected = reads 4 (node 1 0 0 2 1 0 (node 1 0 0 6 1 0 (node 4 0 1 4 1 300 (node 3 2 0 0 1 400 [])))) (bytes "- a * b") }
     -- T7
     ∷ record { text = bytes "a * - b"; expected = refuses 11 0 }
     -- T8
     ∷ record { text = bytes "a = b = c"; expected = refuses 11 0 }
     -- T9
-    ∷ record { text = bytes "let infix right 400 r ; in a r b + c end"; expected = reads 6 (node 1 0 0 27 1 (node 1 0 0 31 1 (node 1 0 0 35 1 (node 4 1 2 33 1 (node 4 0 3 29 1 (node 7 4 0 0 26 [])))))) (bytes "let infix right 400 r ; in a r b + c end") }
+    ∷ record { text = bytes "let infix right 400 r ; in a r b + c end"; expected = reads 6 (node 1 0 0 27 1 0 (node 1 0 0 31 1 0 (node 1 0 0 35 1 0 (node 4 1 2 33 1 400 (node 4 0 3 29 1 400 (node 7 4 0 0 26 0 [])))))) (bytes "let infix right 400 r ; in a r b + c end") }
     -- T10
     ∷ record { text = bytes "let infix right 400 r ; in a + b r c end"; expected = refuses 11 24 }
     -- T11
-    ∷ record { text = bytes "let infix left 450 s ; postfix left 450 s ; in a s - b end"; expected = reads 5 (node 1 0 0 47 1 (node 1 0 0 53 1 (node 3 1 0 51 1 (node 4 0 2 49 1 (node 7 3 0 0 46 []))))) (bytes "let infix left 450 s ; postfix left 450 s ; in a s - b end") }
+    ∷ record { text = bytes "let infix left 450 s ; postfix left 450 s ; in a s - b end"; expected = reads 5 (node 1 0 0 47 1 0 (node 1 0 0 53 1 0 (node 3 1 0 51 1 400 (node 4 0 2 49 1 450 (node 7 3 0 0 46 0 []))))) (bytes "let infix left 450 s ; postfix left 450 s ; in a s - b end") }
     -- T12
-    ∷ record { text = bytes "let infix left 350 s ; postfix left 350 s ; in a s - b end"; expected = reads 5 (node 1 0 0 47 1 (node 5 0 0 49 1 (node 1 0 0 53 1 (node 4 1 2 51 1 (node 7 3 0 0 46 []))))) (bytes "let infix left 350 s ; postfix left 350 s ; in a s - b end") }
+    ∷ record { text = bytes "let infix left 350 s ; postfix left 350 s ; in a s - b end"; expected = reads 5 (node 1 0 0 47 1 0 (node 5 0 0 49 1 350 (node 1 0 0 53 1 0 (node 4 1 2 51 1 400 (node 7 3 0 0 46 0 []))))) (bytes "let infix left 350 s ; postfix left 350 s ; in a s - b end") }
     -- T13
-    ∷ record { text = bytes "((a)) * (b + c)"; expected = reads 8 (node 1 0 0 2 1 (node 6 0 0 0 0 (node 6 1 0 0 0 (node 1 0 0 9 1 (node 1 0 0 13 1 (node 4 3 4 11 1 (node 6 5 0 0 0 (node 4 2 6 6 1 [])))))))) (bytes "a * ( b + c )") }
+    ∷ record { text = bytes "((a)) * (b + c)"; expected = reads 8 (node 1 0 0 2 1 0 (node 6 0 0 0 0 0 (node 6 1 0 0 0 0 (node 1 0 0 9 1 0 (node 1 0 0 13 1 0 (node 4 3 4 11 1 400 (node 6 5 0 0 0 0 (node 4 2 6 6 1 300 [])))))))) (bytes "a * ( b + c )") }
     -- T14
-    ∷ record { text = bytes "'not' = '12'"; expected = reads 3 (node 1 0 0 1 3 (node 1 0 0 9 2 (node 4 0 1 6 1 []))) (bytes "'not' = '12'") }
+    ∷ record { text = bytes "'not' = '12'"; expected = reads 3 (node 1 0 0 1 3 0 (node 1 0 0 9 2 0 (node 4 0 1 6 1 500 []))) (bytes "'not' = '12'") }
     ∷ []
 
--- "T3, nine bytes, prints in full"
+-- "T3, nine bytes, prints in full"; the last field as document 02, §6, has it.
 abbrev pub t3Listing : Bytes
-t3Listing = bytes "read 5\n0 name 0 0 0 1\n1 name 0 0 4 1\n2 number 0 0 8 1\n3 infix 1 2 6 1\n4 infix 0 3 2 1\ntidy 9\na + b * 3\n"
+t3Listing = bytes "read 5\n0 name 0 0 0 1 0\n1 name 0 0 4 1 0\n2 number 0 0 8 1 0\n3 infix 1 2 6 1 300\n4 infix 0 3 2 1 400\ntidy 9\na + b * 3\n"
