@@ -22,14 +22,16 @@ use Rattle.grammar.specs.Token as Token
 use Rattle.grammar.specs.Tree as Tree
 use Rattle.examples.specs.Limits as Limits
 use Rattle.examples.specs.Limits.{limits}
+use Prim.Native.Nat.{_*_}
 use Rattle.grammar.specs.Bytes.{bytes}
+use Rattle.grammar.specs.Nodes.{wordsPerNode}
 use Rattle.examples.specs.Table.{table, given, asked, t3Listing}
 use Rattle.examples.specs.Cases.{cases}
 
 -- The four statements below, computed under one list of opened definitions.
 computed :
     (map given table ≡ map (λ e. asked (e .expected)) table)
-    × (Listing.listing 25 9 (bytes "a + b * 3") ≡ t3Listing)
+    × (Listing.listing (5 * wordsPerNode) 9 (bytes "a + b * 3") ≡ t3Listing)
     × (map (λ c. Listing.listing 1000 2000 (c .text)) cases ≡ map (λ c. c .listing) cases)
     × (map Limits.given limits ≡ map Limits.asked limits)
 unfolding Answer.tokensOf Answer.startsOf Answer.offsetOf Answer.spanOffset Answer.readingTree Answer.readSpans Answer.readTokens
@@ -69,8 +71,8 @@ computed = (refl, refl, refl, refl)
 pub table-holds : map given table ≡ map (λ e. asked (e .expected)) table
 table-holds = computed .0
 
--- T3's listing, as document 01 prints it.
-pub t3-listed : Listing.listing 25 9 (bytes "a + b * 3") ≡ t3Listing
+-- T3's listing, as document 01 prints it, with the last field of document 02, §6; lent are the words of its five nodes and its nine bytes.
+pub t3-listed : Listing.listing (5 * wordsPerNode) 9 (bytes "a + b * 3") ≡ t3Listing
 t3-listed = computed .1
 
 -- The listing of each recorded case.

@@ -6,7 +6,7 @@ use mathlib.Core.Option.{Option, none, some}
 use Prim.Native.Nat.{ℕ, suc, _+_, _-_, _≤_, _<_}
 use native.Mathlib.Omega.{arith}
 use native.Mathlib.Nat.{sub-zero}
-use lib.ListN.{length, take, drop, getD, List·getD-map, List·getD-eq-default}
+use lib.ListN.{length, take, drop, getD, length-map, List·getD-map, List·getD-eq-default}
 use lib.Seq.{take-append-seam}
 use Rattle.grammar.specs.Bytes.{Bytes}
 use Rattle.grammar.specs.Token.{Token, structure, symbol, keywordLet, keywordIn, spelling, Atom, characters}
@@ -79,6 +79,17 @@ names-of = listed nodeNames nameOf refl (λ t. refl) (λ t. refl) (λ ds t. refl
 blocks-of : (t : Tree) → map blockOf (subtrees t) ≡ nodeBlocks t
 unfolding blockOf nodeBlocks
 blocks-of = listed nodeBlocks blockOf refl (λ t. refl) (λ t. refl) (λ ds t. refl) (λ l m r. refl)
+
+-- An entry of such a list that is there is that of a node.
+node-of : {A : Type 0} (xs : List (Option A)) (t : Tree) → length xs ≡ count t → (k : ℕ) (x : A) → getD xs k none ≡ some x → k < count t
+node-of xs t e k x f =
+    below k (count t) (λ l. l) (λ l. let none-left : getD xs k none ≡ none = List·getD-eq-default xs none (omega arith) in impossible cc)
+
+pub named-node : (t : Tree) (k : ℕ) (c : Bytes) → getD (nodeNames t) k none ≡ some c → k < count t
+named-node t = node-of (nodeNames t) t (sym (ap length (names-of t)) ∙ length-map (subtrees t) nameOf ∙ subtrees-length t)
+
+pub block-of : (t : Tree) (k : ℕ) (ds : List Declaration) → getD (nodeBlocks t) k none ≡ some ds → k < count t
+block-of t = node-of (nodeBlocks t) t (sym (ap length (blocks-of t)) ∙ length-map (subtrees t) blockOf ∙ subtrees-length t)
 
 -- The part of the text that belongs to the root of a tree.
 abbrev pub Gives : Tree → Bytes → Type 0

@@ -1,4 +1,4 @@
--- What a service counts fits into the lent buffer: five words to a node, one byte to a byte of canonical text.
+-- What a service counts fits into the lent buffer: six words to a node, one byte to a byte of canonical text.
 use mathlib.Core.Path.{_≡_, refl, ap}
 use mathlib.Core.Bool.{Bool, true, false, _&&_}
 use mathlib.Core.List.{List}
@@ -51,7 +51,7 @@ canonicalize-fits B (passed r) =
     (λ e. let l = leb-true (length c) (length B) (and-left _ _ e) in omega arith)
 
 -- The nodes that reading counts stand in the table.
-pub count-fits : (text : Bytes) (N N′ : List ℕ) (a : Answer) → Reads text N N′ a → 5 * (a .count) ≤ length N
+pub count-fits : (text : Bytes) (N N′ : List ℕ) (a : Answer) → Reads text N N′ a → wordsPerNode * (a .count) ≤ length N
 unfolding G.read
 count-fits text N N′ a e = answer-fits wordsPerNode N a N′ _ e (read-fits text N (readText text))
 

@@ -1,4 +1,4 @@
--- Calls of `read`: five words to a node, 12 where they do not fit; what the node table then holds is what the text reads as.
+-- Calls of `read`: six words to a node, 12 where they do not fit; what the node table then holds is what the text reads as.
 use mathlib.Core.Path.{_≡_, refl, sym, ap, subst, _∙_}
 use mathlib.Core.Bool.{Bool}
 use mathlib.Core.List.{List, _++_}
@@ -10,19 +10,21 @@ use lib.Seq.{take-append-seam, drop-append-seam}
 use borrow.Author.Tests.{leb-true, le-leb}
 use Rattle.grammar.specs.Bytes.{Bytes}
 use Rattle.grammar.specs.Outcome.{Outcome, refused, passed}
-use Rattle.grammar.specs.Declaration.{isReserved}
+use Rattle.grammar.specs.Declaration.{startTable, isReserved}
 use Rattle.grammar.specs.Tree.{Tree}
 use Rattle.grammar.specs.Nodes.{count, wordsPerNode}
 use Rattle.grammar.specs.Claim.{ReadingOf}
 use Rattle.grammar.specs.Answer as G
 use Rattle.grammar.specs.Answer.{Reading, offsetOf, readText, readInto, readingWords, over}
 use Rattle.grammar.specs.Spelling.{TokenAt}
+use Rattle.grammar.specs.NodePrecedence.{NodePrecedence}
 use Rattle.grammar.proofs.Scanned.{length-tokens}
 use Rattle.grammar.proofs.TokenFaults.{token-at}
 use Rattle.grammar.proofs.Operands.{words-length}
 use Rattle.grammar.proofs.Readings.{reading-of-tokens}
 use Rattle.grammar.proofs.ReadingTrees.{reading-operated}
 use Rattle.grammar.proofs.Decoding.{decode-tree, nodes-ordered, subtree-together}
+use Rattle.grammar.proofs.NodePrecedences.{node-precedences}
 use Rattle.grammar.proofs.Rules.{reading-of, same-reading}
 use Rattle.reader.specs.declared.Answer.{Answer}
 use Rattle.reader.specs.Answered.{resultOf, Reads}
@@ -61,7 +63,7 @@ module _ (text : Bytes) (N N′ : List ℕ) (r : Reading) (e : readText text ≡
   reading-holds =
       let (h, is) = reading-of-tokens text r e in
       let v = drop (length (readingWords text r)) N in
-      let size = words-length (offsetOf text (r .tokens)) (r .tree) 0 0 (reading-operated is) in
+      let size = words-length (offsetOf text (r .tokens)) startTable (r .tree) 0 0 (reading-operated is) in
       record {
         counted = refl;
         decodes = rw w (decode-tree text (r .tokens) h (r .tree) is v);
@@ -76,6 +78,9 @@ module _ (text : Bytes) (N N′ : List ℕ) (r : Reading) (e : readText text ≡
         written = rw w (subst (λ n. take n (readingWords text r ++ v) ≡ readingWords text r) size (take-append-seam (readingWords text r) v));
         characters = NodeCharacters.node-characters text r h is N N′ w;
         declarations = NodeCharacters.node-blocks text r h is N N′ w;
+        precedences =
+            λ k l.
+            subst (λ ts. NodePrecedence text ts N′ k) (sym (is .tokens)) (rw w (node-precedences text (r .tokens) h (r .tree) is v k l));
         behind = rw w (subst (λ n. drop n (readingWords text r ++ v) ≡ drop n N) size (drop-append-seam (readingWords text r) v));
       }
 

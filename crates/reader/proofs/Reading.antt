@@ -1,13 +1,16 @@
 -- What reading answers after checks 2 to 11 and 17: a refusal, nothing of a blank text, 12, or the words of the tree.
 use mathlib.Core.Path.{_≡_, refl, sym, ap, ap₂, _∙_}
 use mathlib.Core.List.{List, [], _∷_}
-use Prim.Native.Nat.{ℕ, suc, _*_, _≤_, _<_}
+use Prim.Native.Nat.{ℕ, suc, _+_, _*_, _≤_, _<_}
 use native.Mathlib.Omega.{arith}
 use lib.ListN.{length}
 use borrow.Author.Tests.{le-leb, lt-leb}
 use Rattle.grammar.specs.Fault.{longestText}
 use Rattle.grammar.specs.Bytes.{Bytes}
 use Rattle.grammar.specs.Outcome.{Outcome, refused, passed}
+use Rattle.grammar.specs.Operator.{Table}
+use Rattle.grammar.specs.Declaration.{startTable, declareAll, allTokens}
+use Rattle.grammar.specs.Tree.{Tree, nothing, leaf, bracket, block, node, flat}
 use Rattle.grammar.specs.Nodes.{count, words, wordsPerNode}
 use Rattle.grammar.specs.Scan.{Placed}
 use Rattle.grammar.specs.Blank.{blankRule}
@@ -18,9 +21,13 @@ use Rattle.grammar.proofs.Scanned.{length-tokens}
 use Rattle.grammar.proofs.ReadingTrees.{is-blank}
 use Rattle.grammar.proofs.Readings.{reading-of-tokens}
 use Rattle.grammar.proofs.RoundTrip.{few-nodes}
+use Rattle.rows.specs.Codes.{Bounded}
+use Rattle.rows.specs.Standing.{Roled}
 use Rattle.rows.proofs.Stored.{stored-ascend}
 use Rattle.rows.proofs.TreeTokens.{ready-tokened}
-use Rattle.nodes.specs.Building.{Stands, Buildable, Built}
+use Rattle.canonical_text.specs.Brackets as Brackets
+use Rattle.canonical_text.proofs.ReadyTree.{ready-tree}
+use Rattle.nodes.specs.Building.{rows, Stands, Buildable, Built}
 use Rattle.checks.specs.Checking.{Passes, Outcomes, Checking}
 use Rattle.checks.specs.declared.Checked.{Checked}
 use Rattle.checks.specs.declared.Checked.the-variants.{Blank, Passed, Refused}
@@ -83,34 +90,46 @@ module _ (text : Bytes) (K R O : List ℕ) (c : Checked) (h : Checking text K R 
   unfolding G.read readInto rejection answerOf resultOf
   reads-refused N m p e = rw (refused-reads m p e)
 
+-- The roles of a tree that stands in the rows.
+tree-roled : (K R : List ℕ) (T : Table) (i : ℕ) (t : Tree) → Bounded T → Brackets.Stands K R T i t → Roled R T i t
+tree-roled K R T i nothing b h = tt
+tree-roled K R T i (leaf a) b h = tt
+tree-roled K R T i (bracket t) b h = tree-roled K R T (suc i) t b (h .3)
+tree-roled K R T i (block ds t) b h = tree-roled K R (declareAll T ds) (suc (suc (i + length (allTokens ds)))) t (h .5) (h .6)
+tree-roled K R T i (node l m r) b h =
+    (h .1, b m, tree-roled K R T i l b (h .2), tree-roled K R T (suc (i + length (flat l))) r b (h .3))
+
 module _ {text : Bytes} {K R O : List ℕ} {n k at : ℕ} (f : Found text K R O n k at) where
   -- It has at most 1,024 nodes.
   pub nodes-few : k ≤ 1024
   nodes-few = omega (arith, f .nodes, few-nodes text (f .reading) (f .reads))
 
   -- The table is too short.
-  pub reads-short : (N : List ℕ) → length N < k * 5 → Reads text N N (refusedWith 12 0)
+  pub reads-short : (N : List ℕ) → length N < k * wordsPerNode → Reads text N N (refusedWith 12 0)
   unfolding G.read readInto rejection answerOf resultOf
   reads-short N l =
       rw (f .reads) (rw (lt-leb (wordsPerNode * count (f .reading .tree)) (length N) (omega (arith, f .nodes)), readInto))
 
   -- What the builder asks.
-  stands : Stands (offsetOf text (f .reading .tokens)) K O 0 at n (f .reading .tree)
+  stands : Stands (offsetOf text (f .reading .tokens)) startTable (rows K R O) 0 at n (f .reading .tree)
   stands =
       let r = f .reading in
       record {
         tokened = ready-tokened (f .ready);
+        roled = let t = ready-tree (f .ready) in tree-roled K R startTable 0 (r .tree) (t .bounded) (t .stands);
         rooted = f .ready .rooted;
         root = f .root;
         end = omega (arith, f .tokens, length-tokens (r .tokens), ap length (f .ready .isTree .tokens));
       }
 
-  pub buildable : (N : List ℕ) → k * 5 ≤ length N → Buildable K O 0 at n N 0
+  pub buildable : (N : List ℕ) → k * wordsPerNode ≤ length N → Buildable (rows K R O) 0 at n N 0
   buildable N l =
       record {
         tokens = omega (arith, f .tokens, f .ready .tokens);
+        roles = omega (arith, f .tokens, f .ready .roles);
         roots = omega (arith, f .tokens, f .ready .roots);
         places = offsetOf text (f .reading .tokens);
+        table = startTable;
         tree = f .reading .tree;
         stands = stands;
         ascend = λ i j a b. stored-ascend (f .ready .stored) i j a (omega (arith, f .tokens));
@@ -119,10 +138,10 @@ module _ {text : Bytes} {K R O : List ℕ} {n k at : ℕ} (f : Found text K R O 
       }
 
   -- What it leaves is the reading.
-  pub reads-words : (N N′ : List ℕ) (c : ℕ) → k * 5 ≤ length N → Built K O 0 at n N 0 N′ c → Reads text N N′ (written c)
+  pub reads-words : (N N′ : List ℕ) (c : ℕ) → k * wordsPerNode ≤ length N → Built (rows K R O) 0 at n N 0 N′ c → Reads text N N′ (written c)
   unfolding G.read readInto success answerOf resultOf readingWords
   reads-words N N′ c l b =
       let t = f .reading .tree in
       rw (f .reads)
       (rw (le-leb (wordsPerNode * count t) (length N) (omega (arith, f .nodes)), readInto)
-      (ap₂ (λ m B. record { answer = record { number = 0; offset = 0; count = m }; buffer = B }) (b .counted _ t stands) (b .written _ t stands)))
+      (ap₂ (λ m B. record { answer = record { number = 0; offset = 0; count = m }; buffer = B }) (b .counted _ _ t stands) (b .written _ _ t stands)))

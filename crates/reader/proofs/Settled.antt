@@ -12,7 +12,7 @@ use lib.ListN.{take, drop, take-append-drop}
 use Rattle.grammar.specs.Bytes.{Bytes}
 use Rattle.grammar.specs.Tree.{Tree}
 use Rattle.grammar.specs.Nodes.{wordsPerNode}
-use Rattle.grammar.specs.Declaration.{isReserved}
+use Rattle.grammar.specs.Declaration.{startTable, isReserved}
 use Rattle.grammar.specs.Fault.{BeforeEleven, noneReserved, Unreserved}
 use Rattle.grammar.proofs.TokenFaults.{goes-on-unique}
 use Rattle.grammar.proofs.WordsOffsets.{words-offsets}
@@ -35,7 +35,7 @@ table-settled : (text : Bytes) (N : List ℕ) → Settles (TableHolds text N)
 table-settled text N t C C′ c d h g =
     let e : c ≡ d = h .counted ∙ sym (g .counted) in
     let size : wordsPerNode * d ≡ wordsPerNode * c = ap (_*_ wordsPerNode) (sym e) in
-    let words = words-offsets (h .offsets) (g .offsets) t 0 0 (λ j l m. goes-on-unique (h .begins j (omega arith) .1) (g .begins j (omega arith) .1) .0) in
+    let words = words-offsets (h .offsets) (g .offsets) startTable t 0 0 (λ j l m. goes-on-unique (h .begins j (omega arith) .1) (g .begins j (omega arith) .1) .0) in
     let front = h .written ∙ words ∙ sym (g .written) ∙ ap (λ k. take k C′) size in
     let rest = h .behind ∙ ap (λ k. drop k N) (sym size) ∙ sym (g .behind) ∙ ap (λ k. drop k C′) size in
     (e, same-parts (wordsPerNode * c) C C′ front rest)

@@ -1,10 +1,13 @@
 -- What the services answer and leave in the lent buffer, by document 01's answer and the definitions of the services.
 use mathlib.Core.Path.{_≡_}
 use mathlib.Core.Bool.{Bool, true, false}
-use mathlib.Core.List.{List}
+use mathlib.Core.List.{List, []}
 use Prim.Native.Nat.{ℕ, _+_, _*_}
-use lib.ListN.{take, drop, getD}
+use lib.Dec.{leb}
+use lib.ListN.{length}
 use Rattle.grammar.specs.Bytes.{Bytes}
+use Rattle.grammar.specs.Nodes.{wordsPerNode}
+use Rattle.grammar.specs.Decoding.{partOf}
 use Rattle.grammar.specs.Answer as G
 use Rattle.reader.specs.declared.Answer.{Answer}
 
@@ -38,6 +41,6 @@ pub record Serves (canonical : Bool) (text : Bytes) (table table′ buffer buffe
   pub writing : canonical ≡ true → Canonicalizes text buffer buffer′ a × (table′ ≡ table)
 
 -- "Offset and length give the name's characters, the number's digits or the operator's mark": the part of the text that node number
--- `i` gives. A node that is not there gives none of it.
+-- `i` gives. "words past the last whole node are no part of it": a node that is not whole gives nothing.
 unfoldable pub nodeCharacters : Bytes → List ℕ → ℕ → Bytes
-nodeCharacters text table i = take (getD table (i * 5 + 4) 0) (drop (getD table (i * 5 + 3) 0) text)
+nodeCharacters text table i = elim (leb (i * wordsPerNode + wordsPerNode) (length table)) [ true ↦ partOf text table i | false ↦ [] ]

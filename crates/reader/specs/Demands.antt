@@ -8,12 +8,13 @@ use Prim.Native.Nat.{ℕ, _*_, _≤_, _<_}
 use lib.ListN.{length, take, drop, getD}
 use Rattle.grammar.specs.Bytes.{Bytes}
 use Rattle.grammar.specs.Token.{Token}
-use Rattle.grammar.specs.Declaration.{Declaration, isReserved}
+use Rattle.grammar.specs.Declaration.{Declaration, startTable, isReserved}
 use Rattle.grammar.specs.Spelling.{TokenAt}
 use Rattle.grammar.specs.Tree.{Tree, flat}
 use Rattle.grammar.specs.Nodes.{count, words, wordsPerNode}
 use Rattle.grammar.specs.Fault.{longestText, BeforeEleven, FaultReserving, PastReserving}
 use Rattle.grammar.specs.Decoding.{decodeTable, Ordered, Together}
+use Rattle.grammar.specs.NodePrecedence.{NodePrecedence}
 use Rattle.grammar.specs.Claim.{nodeNames, nodeBlocks, FromLetToIn, FirstWithout, ReadingReserving, canonicalBytes}
 use Rattle.reader.specs.declared.Answer.{Answer}
 use Rattle.reader.specs.Answered.{nodeCharacters}
@@ -59,13 +60,15 @@ pub record TableHolds (text : Bytes) (N N′ : List ℕ) (c : ℕ) (t : Tree) : 
   -- "Children come before parents, left before right .. so the words of a subtree stand together in the node table."
   pub ordered : (k : ℕ) → k < c → Ordered N′ k
   pub together : (k : ℕ) → k < c → Together text N′ k
-  -- The words are those of the tree over the offsets at which the text's tokens begin.
+  -- The words are those of the tree, under the starting operators, over the offsets at which the text's tokens begin.
   pub offsets : ℕ → ℕ
   pub begins : (i : ℕ) → i ≤ length (flat t) → TokenAt text (flat t) i (offsets i)
-  pub written : take (wordsPerNode * c) N′ ≡ words offsets t 0 0
+  pub written : take (wordsPerNode * c) N′ ≡ words offsets startTable t 0 0
   -- "Offset and length give the name's characters, the number's digits or the operator's mark; .. a block has `let` to `in` inclusive."
   pub characters : (k : ℕ) (s : Bytes) → getD (nodeNames t) k none ≡ some s → nodeCharacters text N′ k ≡ s
   pub declarations : (k : ℕ) (ds : List Declaration) → getD (nodeBlocks t) k none ≡ some ds → FromLetToIn ds (nodeCharacters text N′ k)
+  -- 02, §6: "the sixth is the level at which it was read, and 0 for names, numbers, brackets and blocks".
+  pub precedences : (k : ℕ) → k < c → NodePrecedence text (flat t) N′ k
   -- "Words beyond the nodes keep their contents."
   pub behind : drop (wordsPerNode * c) N′ ≡ drop (wordsPerNode * c) N
 

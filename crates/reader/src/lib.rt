@@ -57,20 +57,21 @@ fn success(count: usize) -> Answer
 // Writes the `k` nodes of the tokens, whose root is `at`, if the table has room for them.
 fn write_nodes(
     tokens: &[u16],
+    roles: &[u16],
     roots: &[u16],
     count: usize,
     k: usize,
     at: usize,
     nodes: &mut [u32],
 ) -> Answer
-    requires { ⌜ ((text R : List ℕ) × Found text (now tokens) R (now roots) count k at) ⌝ }
-    ensures { λ r. ⌜ ((text R : List ℕ) → Found text (now (tokens .entry)) R (now (roots .entry)) count k at
+    requires { ⌜ ((text : List ℕ) × Found text (now tokens) (now roles) (now roots) count k at) ⌝ }
+    ensures { λ r. ⌜ ((text : List ℕ) → Found text (now (tokens .entry)) (now (roles .entry)) (now (roots .entry)) count k at
         → Reads text (now (nodes .entry)) (now (nodes .exit)) r) ⌝ }
 {
     if nodes.len() < k * node::WORDS {
         return refused(TABLE_TOO_SHORT, 0);
     }
-    let written = build::build(tokens, roots, 0, at, count, nodes, 0);
+    let written = build::build(tokens, roles, roots, 0, at, count, nodes, 0);
     success(written)
 }
 
@@ -121,7 +122,7 @@ fn serve_in(
             if canonical {
                 return write_text(text, tokens, roles, roots, count, buffer);
             }
-            write_nodes(tokens, roots, count, k, root, nodes)
+            write_nodes(tokens, roles, roots, count, k, root, nodes)
         }
     }
 }
@@ -175,7 +176,7 @@ fn serve(text: &[u8], canonical: bool, nodes: &mut [u32], buffer: &mut [u8]) -> 
     )
 }
 
-// Reads a text into a lent node table, five words to a node. A refusal changes no word.
+// Reads a text into a lent node table, six words to a node. A refusal changes no word.
 pub fn read(text: &[u8], nodes: &mut [u32]) -> Answer
     ensures { λ r. ⌜ Reads (now (text .entry)) (now (nodes .entry)) (now (nodes .exit)) r ⌝ }
 {
@@ -191,7 +192,8 @@ pub fn canonicalize(text: &[u8], buffer: &mut [u8]) -> Answer
     serve(text, true, &mut nodes, buffer)
 }
 
-// The part of the text that node number `i` gives: a name's characters without quotes, a number's digits, an operator.
+// The part of the text that node number `i` gives: a name's characters without quotes, a number's digits, an operator. Nothing if the table
+// does not have the whole node.
 pub fn characters<'a>(text: &'a [u8], nodes: &[u32], i: usize) -> &'a [u8]
     ensures { λ r. ⌜ now r ≡ nodeCharacters (now (text .entry)) (now (nodes .entry)) i ⌝ }
 {
@@ -199,7 +201,7 @@ pub fn characters<'a>(text: &'a [u8], nodes: &[u32], i: usize) -> &'a [u8]
         return byte_strings::cut(text, 0, 0);
     }
     let w = i * node::WORDS;
-    if nodes.len() <= w + 4 {
+    if nodes.len() < w + node::WORDS {
         return byte_strings::cut(text, 0, 0);
     }
     let at = nodes[w + 3] as usize;

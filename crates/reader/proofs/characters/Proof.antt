@@ -1,18 +1,23 @@
 -- A node whose words are not all there gives nothing; another the part of the text by its offset and length.
 use borrow.Author.Needs.{needs}
-use mathlib.Core.Path.{_≡_, _∙_}
+use mathlib.Core.Path.{_≡_, sym, _∙_}
 use mathlib.Core.List.{List}
-use Prim.Native.Nat.{ℕ, _+_, _*_, _≤_}
+use Prim.Native.Nat.{ℕ, _+_, _*_, _<_}
 use native.Mathlib.Omega.{arith}
-use lib.ListN.{length, take, drop, List·getD-eq-default}
+use lib.ListN.{length, take, drop}
+use borrow.Author.Tests.{lt-leb}
 use Rattle.grammar.specs.Bytes.{Bytes}
+use Rattle.grammar.specs.Nodes.{wordsPerNode}
 use Rattle.reader.specs.Answered.{nodeCharacters}
+use Rattle.reader.proofs.NodeCharacters.{whole-characters}
 use Rattle.reader.proofs.characters.Statement.{statement}
 use Rattle.reader.proofs.characters.Tie as tie
 
-no-node : (text : Bytes) (table : List ℕ) (i : ℕ) → length table ≤ i * 5 + 4 → take 0 (drop 0 text) ≡ nodeCharacters text table i
+no-node :
+    (text : Bytes) (table : List ℕ) (i : ℕ) → length table < i * wordsPerNode + wordsPerNode
+    → take 0 (drop 0 text) ≡ nodeCharacters text table i
 unfolding nodeCharacters
-no-node text table i l = rw (List·getD-eq-default table 0 l)
+no-node text table i l = rw (lt-leb (i * wordsPerNode + wordsPerNode) (length table) l, nodeCharacters)
 
 cut-requires : tie.Need-cut-requires
 cut-requires c κs = search needs
@@ -45,7 +50,7 @@ shared-slice-read-at c = search needs
 
 cast-at : tie.Need-cast-at
 cast-at c =
-    omega (arith, c .shared-slice-known3 .given (c .before .before .before .before .before .args .i * 5 + 3))
+    omega (arith, c .shared-slice-known3 .given (c .before .before .before .before .before .args .i * wordsPerNode + 3))
 
 add-n : tie.Need-add-n
 add-n c = search needs
@@ -58,15 +63,14 @@ shared-slice-read-n c = search needs
 
 cast-n : tie.Need-cast-n
 cast-n c =
-    omega (arith, c .shared-slice-known4 .given (c .before .before .before .before .before .before .args .i * 5 + 4))
+    omega (arith, c .shared-slice-known4 .given (c .before .before .before .before .before .before .args .i * wordsPerNode + 4))
 
 cut-requires-3 : tie.Need-cut-requires-3
 cut-requires-3 c κs = search needs
 
 returns-3 : tie.Need-returns-3
-unfolding nodeCharacters
 returns-3 c =
-    c .cut3 .ensures
+    c .cut3 .ensures ∙ sym (whole-characters _ _ _ (omega arith))
 
 pub characters-spec : {M : Type 1} → statement M
 characters-spec =

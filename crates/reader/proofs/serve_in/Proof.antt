@@ -50,10 +50,10 @@ returns c =
 
 write-nodes-requires : tie.Need-write-nodes-requires
 write-nodes-requires c κs =
-    let a = c .before .before .before .before .before in
+    let a = c .before .before .before .before .before .before in
     let b = a .before .before .before .before .before .before .before .before in
     let d = a in
-    (_, _, found _ _ _ _ _ (b .check .ensures) _ _ _ (d .count .given .1))
+    (_, found _ _ _ _ _ (b .check .ensures) _ _ _ (d .count .given .1))
 
 same-length-5 : tie.Need-same-length-5
 same-length-5 c = search needs
@@ -97,11 +97,11 @@ same-length-14 c = search needs
 
 returns-4 : tie.Need-returns-4
 returns-4 c =
-    let a = c .before .before .before .before .before .before in
+    let a = c .before .before .before .before .before .before .before in
     let b = a .before .before in
     let d = b in
     let f = found _ _ _ _ _ (d .before .before .before .before .before .before .before .before .check .ensures) _ _ _ (d .count .given .1) in
-    serves-nodes _ _ (a .if1 .left) (c .before .before .write-nodes .ensures _ _ f)
+    serves-nodes _ _ (a .if1 .left) (c .before .before .write-nodes .ensures _ f)
 
 pub serve-in-spec : {M : Type 1} → statement M
 serve-in-spec =

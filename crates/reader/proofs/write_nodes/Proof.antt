@@ -7,18 +7,18 @@ use Rattle.reader.proofs.write_nodes.Tie as tie
 
 mul-if1 : tie.Need-mul-if1
 mul-if1 c =
-    omega (arith, nodes-few (c .before .before .before .pre .2))
+    omega (arith, nodes-few (c .before .before .before .before .pre .1))
 
 refused-requires : tie.Need-refused-requires
 refused-requires c κs = search needs
 
 returns : tie.Need-returns
 returns c =
-    λ text R f. rw (c .refused .ensures) (reads-short f _ (c .before .if1 .taken))
+    λ text f. rw (c .refused .ensures) (reads-short f _ (c .before .if1 .taken))
 
 build-requires : tie.Need-build-requires
 build-requires c κs =
-    buildable (c .before .before .before .before .before .pre .2) _ (c .before .if1 .left)
+    buildable (c .before .before .before .before .before .before .pre .1) _ (c .before .if1 .left)
 
 success-requires : tie.Need-success-requires
 success-requires c κs = search needs
@@ -28,7 +28,7 @@ same-length c = search needs
 
 returns-2 : tie.Need-returns-2
 returns-2 c =
-    λ text R f.
+    λ text f.
     rw (c .success .ensures) (reads-words f _ _ _ (c .before .before .before .before .before .if1 .left) (c .before .before .before .build .ensures))
 
 pub write-nodes-spec : {M : Type 1} → statement M
