@@ -1,4 +1,4 @@
--- The text of an answer.
+-- The text of an answer, and how long lines and node tables are.
 use mathlib.Core.Bool.{true, false}
 use mathlib.Core.List.{_++_}
 use Prim.Native.Nat.{ℕ}
@@ -6,6 +6,13 @@ use lib.Dec.{eqb}
 use Rattle.grammar.specs.Bytes.{Bytes, bytes}
 use Rattle.grammar.specs.Listing.{decimalIn}
 use Rattle.reader.specs.declared.Answer.{Answer}
+
+-- The bytes of a line, and the nodes of a table: no text has more tokens, and no tree more nodes than tokens.
+abbrev pub lineSize : ℕ
+lineSize = 160
+
+abbrev pub mostNodes : ℕ
+mostNodes = 1024
 
 -- A number below 2 ^ 64 in decimal.
 unfoldable pub spelled : ℕ → Bytes

@@ -1,24 +1,31 @@
 // Prints what both services give, in document 01's format: the answer, a line for each node, then the canonical text.
 use libc::STDOUT_FILENO;
+use nodes::node;
 use reader::Answer;
 ghost use mathlib.Core.List.{[], _∷_};
 ghost use Prim.Native.Nat.{_+_, _*_, _≤_, _<_};
 ghost use lib.ListN.{length, drop, getD};
+ghost use Rattle.grammar.specs.Nodes.{wordsPerNode};
 ghost use Rattle.grammar.specs.Listing.{field, kindNames, nodeLines};
 ghost use Rattle.byte_strings.specs.Puts.{Put};
-ghost use Rattle.listing.specs.Lines.{spelled, answerText};
+ghost use Rattle.listing.specs.Lines.{spelled, answerText, lineSize, mostNodes};
+
+// The bytes of a line, more than any has; the nodes of a table, enough for every text; and its words.
+const LINE: usize = 160;
+const NODES: usize = 1024;
+const TABLE: usize = NODES * node::WORDS;
 
 // Puts `part` behind the first `n` bytes of a line, and answers how many bytes the line then has.
-fn put(line: &mut [u8; 128], n: usize, part: &[u8]) -> usize
-    requires { ⌜ n + length (now part) ≤ 128 ⌝ }
+fn put(line: &mut [u8; LINE], n: usize, part: &[u8]) -> usize
+    requires { ⌜ n + length (now part) ≤ lineSize ⌝ }
     ensures { λ r. ⌜ Put (now (line .entry)) n (now (part .entry)) (now (line .exit)) r ⌝ }
 {
     byte_strings::put(line, n, part)
 }
 
 // Puts a number, of at most 20 digits, into a line.
-fn put_number(line: &mut [u8; 128], n: usize, v: u64) -> usize
-    requires { ⌜ n + 20 ≤ 128 ⌝ }
+fn put_number(line: &mut [u8; LINE], n: usize, v: u64) -> usize
+    requires { ⌜ n + 20 ≤ lineSize ⌝ }
     ensures { λ r. ⌜ Put (now (line .entry)) n (spelled v) (now (line .exit)) r ⌝ }
     ensures { λ r. ⌜ r ≤ n + 20 ⌝ }
 {
@@ -28,8 +35,8 @@ fn put_number(line: &mut [u8; 128], n: usize, v: u64) -> usize
 }
 
 // Puts a number with a space before it into a line.
-fn put_field(line: &mut [u8; 128], n: usize, v: u32) -> usize
-    requires { ⌜ n + 21 ≤ 128 ⌝ }
+fn put_field(line: &mut [u8; LINE], n: usize, v: u32) -> usize
+    requires { ⌜ n + 21 ≤ lineSize ⌝ }
     ensures { λ r. ⌜ Put (now (line .entry)) n (field v) (now (line .exit)) r ⌝ }
     ensures { λ r. ⌜ r ≤ n + 21 ⌝ }
 {
@@ -38,8 +45,8 @@ fn put_field(line: &mut [u8; 128], n: usize, v: u32) -> usize
 }
 
 // Puts the word of a kind, with a space before it, into a line.
-fn put_kind(line: &mut [u8; 128], n: usize, kind: u32) -> usize
-    requires { ⌜ n + 8 ≤ 128 ⌝ }
+fn put_kind(line: &mut [u8; LINE], n: usize, kind: u32) -> usize
+    requires { ⌜ n + 8 ≤ lineSize ⌝ }
     ensures { λ r. ⌜ Put (now (line .entry)) n (32 ∷ getD kindNames kind []) (now (line .exit)) r ⌝ }
     ensures { λ r. ⌜ r ≤ n + 8 ⌝ }
 {
@@ -57,10 +64,10 @@ fn put_kind(line: &mut [u8; 128], n: usize, kind: u32) -> usize
 }
 
 // Puts an answer into a line: `word` and the count, or the refusal.
-fn put_answer(line: &mut [u8; 128], word: &[u8], a: Answer) -> usize
+fn put_answer(line: &mut [u8; LINE], word: &[u8], a: Answer) -> usize
     requires { ⌜ length (now word) ≤ 4 ⌝ }
     ensures { λ r. ⌜ Put (now (line .entry)) 0 (answerText (now (word .entry)) a) (now (line .exit)) r ⌝ }
-    ensures { λ r. ⌜ r < 128 ⌝ }
+    ensures { λ r. ⌜ r < lineSize ⌝ }
 {
     if a.number == 0 {
         let n = put(line, 0, word);
@@ -74,18 +81,19 @@ fn put_answer(line: &mut [u8; 128], word: &[u8], a: Answer) -> usize
 }
 
 // Puts the line of node number `i`, with its line end, into a line.
-fn put_node(line: &mut [u8; 128], nodes: &[u32; 5120], i: usize) -> usize
-    requires { ⌜ i < 1024 ⌝ }
-    ensures { λ r. ⌜ Put (now (line .entry)) 0 (nodeLines 1 i (drop (i * 5) (now (nodes .entry)))) (now (line .exit)) r ⌝ }
-    ensures { λ r. ⌜ r ≤ 128 ⌝ }
+fn put_node(line: &mut [u8; LINE], nodes: &[u32; TABLE], i: usize) -> usize
+    requires { ⌜ i < mostNodes ⌝ }
+    ensures { λ r. ⌜ Put (now (line .entry)) 0 (nodeLines 1 i (drop (i * wordsPerNode) (now (nodes .entry)))) (now (line .exit)) r ⌝ }
+    ensures { λ r. ⌜ r ≤ lineSize ⌝ }
 {
-    let w = i * 5;
+    let w = i * node::WORDS;
     let n = put_number(line, 0, i as u64);
     let n = put_kind(line, n, nodes[w]);
     let n = put_field(line, n, nodes[w + 1]);
     let n = put_field(line, n, nodes[w + 2]);
     let n = put_field(line, n, nodes[w + 3]);
     let n = put_field(line, n, nodes[w + 4]);
+    let n = put_field(line, n, nodes[w + 5]);
     put(line, n, b"\n")
 }
 
@@ -93,7 +101,7 @@ fn put_node(line: &mut [u8; 128], nodes: &[u32; 5120], i: usize) -> usize
 pub fn print_answer(word: &[u8], a: Answer)
     requires { ⌜ length (now word) ≤ 4 ⌝ }
 {
-    let mut line = [0u8; 128];
+    let mut line = [0u8; LINE];
     let n = put_answer(&mut line, word, a);
     io::write_all(STDOUT_FILENO, &line[..n]);
 }
@@ -102,24 +110,24 @@ pub fn print_answer(word: &[u8], a: Answer)
 fn print_answer_line(word: &[u8], a: Answer)
     requires { ⌜ length (now word) ≤ 4 ⌝ }
 {
-    let mut line = [0u8; 128];
+    let mut line = [0u8; LINE];
     let n = put_answer(&mut line, word, a);
     let m = put(&mut line, n, b"\n");
     io::write_all(STDOUT_FILENO, &line[..m]);
 }
 
 // Writes the line of node number `i`.
-fn print_node(nodes: &[u32; 5120], i: usize)
-    requires { ⌜ i < 1024 ⌝ }
+fn print_node(nodes: &[u32; TABLE], i: usize)
+    requires { ⌜ i < mostNodes ⌝ }
 {
-    let mut line = [0u8; 128];
+    let mut line = [0u8; LINE];
     let n = put_node(&mut line, nodes, i);
     io::write_all(STDOUT_FILENO, &line[..n]);
 }
 
 // Writes the lines of the first `count` nodes.
-fn print_nodes(nodes: &[u32; 5120], count: usize)
-    requires { ⌜ count ≤ 1024 ⌝ }
+fn print_nodes(nodes: &[u32; TABLE], count: usize)
+    requires { ⌜ count ≤ mostNodes ⌝ }
 {
     let mut i: usize = 0;
     while i < count {
@@ -141,10 +149,10 @@ fn print_canonical(text: &[u8]) {
     io::write_all(STDOUT_FILENO, b"\n");
 }
 
-// Reads a text into a table of 1,024 nodes, which is enough for every text, and prints its listing: the answer, the nodes and the
+// Reads a text into a table and prints its listing: the answer, the nodes and the
 // canonical text.
 pub fn print_listing(text: &[u8]) {
-    let mut nodes = [0u32; 5120];
+    let mut nodes = [0u32; TABLE];
     let a = reader::read(text, &mut nodes);
     print_answer_line(b"read", a);
     if a.number != 0 {

@@ -1,9 +1,15 @@
 // Runs both services with buffers of several lengths, and says whether the words or bytes that must keep their contents do.
 use libc::STDOUT_FILENO;
+use nodes::node;
 use reader::Answer;
 ghost use mathlib.Core.Path.{_≡_};
 ghost use Prim.Native.Nat.{ℕ, _+_, _≤_, _<_};
 ghost use lib.ListN.{length, getD};
+ghost use Rattle.grammar.specs.Nodes.{wordsPerNode};
+ghost use Rattle.short_buffers.specs.Room.{room};
+
+// The words of the table and the bytes of the buffer, of which parts are lent.
+const ROOM: usize = 40;
 
 // Fills a buffer with 200 plus the index. Neither service writes such bytes or words here.
 fn fill(buffer: &mut [u8])
@@ -68,26 +74,26 @@ fn report(text: &[u8], len: usize, unit: &[u8], word: &[u8], a: Answer, words: &
     io::write_all(STDOUT_FILENO, b"\n");
 }
 
-// Reads a text into the first `len` words of a table of 32. A refusal has count 0, so then all words must keep their contents.
+// Reads a text into the first `len` words of a table. A refusal has count 0, so then all words must keep their contents.
 fn read_into(text: &[u8], len: usize)
-    requires { ⌜ len ≤ 32 ⌝ }
+    requires { ⌜ len ≤ room ⌝ }
 {
-    let mut bytes = [0u8; 32];
+    let mut bytes = [0u8; ROOM];
     fill(&mut bytes);
-    let mut table = [0u32; 32];
+    let mut table = [0u32; ROOM];
     widen(&bytes, &mut table);
     let a = reader::read(text, &mut table[..len]);
-    report(text, len, b" words: ", b"read", a, &table, a.count * 5);
+    report(text, len, b" words: ", b"read", a, &table, a.count * node::WORDS);
 }
 
-// Canonicalizes a text into the first `len` bytes of a buffer of 32.
+// Canonicalizes a text into the first `len` bytes of a buffer.
 fn canonicalize_into(text: &[u8], len: usize)
-    requires { ⌜ len ≤ 32 ⌝ }
+    requires { ⌜ len ≤ room ⌝ }
 {
-    let mut buffer = [0u8; 32];
+    let mut buffer = [0u8; ROOM];
     fill(&mut buffer);
     let a = reader::canonicalize(text, &mut buffer[..len]);
-    let mut words = [0u32; 32];
+    let mut words = [0u32; ROOM];
     widen(&buffer, &mut words);
     report(text, len, b" bytes: ", b"tidy", a, &words, a.count);
 }
@@ -99,7 +105,7 @@ enum Service {
 
 // Runs a service with a buffer of `len` words or bytes.
 fn run_into(service: Service, text: &[u8], len: usize)
-    requires { ⌜ len ≤ 32 ⌝ }
+    requires { ⌜ len ≤ room ⌝ }
 {
     match service {
         Service::Read => read_into(text, len),
@@ -107,28 +113,28 @@ fn run_into(service: Service, text: &[u8], len: usize)
     }
 }
 
-// Runs a service with buffers of lengths around `needed`, the length of the result; four words more are no whole node.
+// Runs a service with buffers of lengths around `needed`, the length of the result; one word less than a node has makes no whole node more.
 fn run(service: Service, text: &[u8], needed: usize)
     requires { ⌜ 1 ≤ needed ⌝ }
-    requires { ⌜ needed + 4 ≤ 32 ⌝ }
+    requires { ⌜ needed + wordsPerNode ≤ room ⌝ }
 {
     run_into(service, text, 0);
     run_into(service, text, needed - 1);
     run_into(service, text, needed);
     run_into(service, text, needed + 1);
-    run_into(service, text, needed + 4);
-    run_into(service, text, 30);
+    run_into(service, text, needed + node::WORDS - 1);
+    run_into(service, text, ROOM);
 }
 
 fn main() {
-    run(Service::Read, b"a + b * 3", 25);
-    run(Service::Read, b"a", 5);
-    run(Service::Read, b"a - - b", 20);
+    run(Service::Read, b"a + b * 3", 5 * node::WORDS);
+    run(Service::Read, b"a", node::WORDS);
+    run(Service::Read, b"a - - b", 4 * node::WORDS);
     run(Service::Canonicalize, b"a+b", 5);
     run(Service::Canonicalize, b"((a)) * (b + c)", 13);
     run(Service::Canonicalize, b"a - - b", 7);
     run_into(Service::Read, b" ", 0);
-    run_into(Service::Read, b" ", 30);
+    run_into(Service::Read, b" ", ROOM);
     run_into(Service::Canonicalize, b" ", 0);
-    run_into(Service::Canonicalize, b" ", 30);
+    run_into(Service::Canonicalize, b" ", ROOM);
 }

@@ -1,9 +1,11 @@
--- The nodes that reading counts stand in the table of 5,120 words. Assumes nothing.
-use Prim.Native.Nat.{ℕ}
+-- The nodes that reading counts stand in the table. Assumes nothing.
+use Prim.Native.Nat.{ℕ, _*_}
 use native.Mathlib.Omega.{arith}
 use borrow.Author.Needs.{needs}
 use lib.ListN.{replicate, length-replicate}
+use Rattle.grammar.specs.Nodes.{wordsPerNode}
 use Rattle.reader.proofs.Fits.{count-fits}
+use Rattle.listing.specs.Lines.{mostNodes}
 use Rattle.listing.proofs.print_listing.Statement.{statement}
 use Rattle.listing.proofs.print_listing.Tie as tie
 
@@ -25,7 +27,7 @@ returns c = search needs
 print-nodes-requires : tie.Need-print-nodes-requires
 print-nodes-requires c κs =
     let d = c .before .before .before .before .before .before in
-    omega (arith, count-fits _ (replicate 5120 0) _ (d .read .result) (d .read .ensures), length-replicate {A = ℕ} 5120 0)
+    omega (arith, count-fits _ (replicate (mostNodes * wordsPerNode) 0) _ (d .read .result) (d .read .ensures), length-replicate {A = ℕ} (mostNodes * wordsPerNode) 0)
 
 print-canonical-requires : tie.Need-print-canonical-requires
 print-canonical-requires c κs = search needs

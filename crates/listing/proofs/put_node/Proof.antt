@@ -7,28 +7,31 @@ use native.Mathlib.Omega.{arith}
 use borrow.Author.Needs.{needs}
 use lib.ListN.{drop, getD}
 use lib.Seq.{getD-drop}
+use Rattle.grammar.specs.Nodes.{wordsPerNode}
 use Rattle.grammar.specs.Listing.{field, kindNames, nodeLines}
-use Rattle.listing.specs.Lines.{spelled}
+use Rattle.listing.specs.Lines.{spelled, mostNodes}
 use Rattle.byte_strings.proofs.Puts.{put-then, put-same}
 use Rattle.listing.proofs.Digits.{spelled-decimal}
 use Rattle.listing.proofs.put_node.Statement.{statement}
 use Rattle.listing.proofs.put_node.Tie as tie
 
 node-line
-    : (i : ℕ) (words : List ℕ) → i < 1024
-    → spelled i ++ 32 ∷ getD kindNames (getD words (i * 5) 0) [] ++ field (getD words (i * 5 + 1) 0) ++ field (getD words (i * 5 + 2) 0)
-    ++ field (getD words (i * 5 + 3) 0) ++ field (getD words (i * 5 + 4) 0) ++ 10 ∷ []
-    ≡ nodeLines 1 i (drop (i * 5) words)
+    : (i : ℕ) (words : List ℕ) → i < mostNodes
+    → spelled i ++ 32 ∷ getD kindNames (getD words (i * wordsPerNode) 0) [] ++ field (getD words (i * wordsPerNode + 1) 0) ++ field (getD words (i * wordsPerNode + 2) 0)
+    ++ field (getD words (i * wordsPerNode + 3) 0) ++ field (getD words (i * wordsPerNode + 4) 0)
+    ++ field (getD words (i * wordsPerNode + 5) 0) ++ 10 ∷ []
+    ≡ nodeLines 1 i (drop (i * wordsPerNode) words)
 unfolding nodeLines
 node-line i words h =
     let small : i < 10 ^ 10 = omega arith in
     rw (
-      getD-drop (i * 5) words 0 0,
-      getD-drop (i * 5) words 1 0,
-      getD-drop (i * 5) words 2 0,
-      getD-drop (i * 5) words 3 0,
-      getD-drop (i * 5) words 4 0,
-      add-zero (i * 5),
+      getD-drop (i * wordsPerNode) words 0 0,
+      getD-drop (i * wordsPerNode) words 1 0,
+      getD-drop (i * wordsPerNode) words 2 0,
+      getD-drop (i * wordsPerNode) words 3 0,
+      getD-drop (i * wordsPerNode) words 4 0,
+      getD-drop (i * wordsPerNode) words 5 0,
+      add-zero (i * wordsPerNode),
       ← spelled-decimal i small,
       append-nil,
     ) refl
@@ -96,6 +99,18 @@ element-copy-out-put-field-4 c = search needs
 put-field-requires-4 : tie.Need-put-field-requires-4
 put-field-requires-4 c κs = search needs
 
+add-put-field-5 : tie.Need-add-put-field-5
+add-put-field-5 c = search needs
+
+mul-put-field-5 : tie.Need-mul-put-field-5
+mul-put-field-5 c = search needs
+
+element-copy-out-put-field-5 : tie.Need-element-copy-out-put-field-5
+element-copy-out-put-field-5 c = search needs
+
+put-field-requires-5 : tie.Need-put-field-requires-5
+put-field-requires-5 c κs = search needs
+
 slice-aggregate-put : tie.Need-slice-aggregate-put
 slice-aggregate-put c = search needs
 
@@ -104,7 +119,8 @@ put-requires c κs = search needs
 
 returns : tie.Need-returns
 returns c =
-    let f₄ = c .before .before .before in
+    let f₅ = c .before .before .before in
+    let f₄ = f₅ .before .before .before in
     let f₃ = f₄ .before .before .before in
     let f₂ = f₃ .before .before .before in
     let f₁ = f₂ .before .before .before in
@@ -116,7 +132,8 @@ returns c =
     let p₂ = put-then p₁ (f₂ .put-field2 .ensures .0) in
     let p₃ = put-then p₂ (f₃ .put-field3 .ensures .0) in
     let p₄ = put-then p₃ (f₄ .put-field4 .ensures .0) in
-    (put-same (node-line (s .args .i) (s .args .nodes .now) (s .pre)) (put-then p₄ (c .put .ensures)), search needs)
+    let p₅ = put-then p₄ (f₅ .put-field5 .ensures .0) in
+    (put-same (node-line (s .args .i) (s .args .nodes .now) (s .pre)) (put-then p₅ (c .put .ensures)), search needs)
 
 pub put-node-spec : {M : Type 1} → statement M
 put-node-spec =
@@ -143,6 +160,10 @@ put-node-spec =
     mul-put-field-4
     element-copy-out-put-field-4
     put-field-requires-4
+    add-put-field-5
+    mul-put-field-5
+    element-copy-out-put-field-5
+    put-field-requires-5
     slice-aggregate-put
     put-requires
     returns)

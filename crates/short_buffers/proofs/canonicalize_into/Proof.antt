@@ -7,6 +7,7 @@ use borrow.Author.Needs.{needs}
 use borrow.Table.Elements.{same-len}
 use lib.ListN.{length, drop}
 use lib.Seq.{length-take-le}
+use Rattle.short_buffers.specs.Room.{room}
 use Rattle.short_buffers.proofs.canonicalize_into.Statement.{statement}
 use Rattle.short_buffers.proofs.canonicalize_into.Tie as tie
 
@@ -34,7 +35,7 @@ buffer c = c .before .before .before .fill .last .0
 abbrev lent : tie.After-canonicalize → ℕ
 lent c = c .before .before .before .before .before .before .args .len
 
-whole : (c : tie.After-canonicalize) → length (c .canonicalize .last .1 .0 ++ drop (lent c) (buffer c)) ≡ 32
+whole : (c : tie.After-canonicalize) → length (c .canonicalize .last .1 .0 ++ drop (lent c) (buffer c)) ≡ room
 whole c =
     same-len (lent c) (buffer c) (c .canonicalize .last .1 .0) (c .canonicalize .kept .1 .0) ∙ c .before .before .before .fill .ensures .0
 

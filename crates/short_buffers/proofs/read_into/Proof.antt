@@ -8,6 +8,7 @@ use borrow.Table.Elements.{same-len}
 use lib.ListN.{length, take, drop}
 use lib.Seq.{length-take-le}
 use Rattle.reader.proofs.Fits.{count-fits}
+use Rattle.short_buffers.specs.Room.{room}
 use Rattle.short_buffers.proofs.read_into.Statement.{statement}
 use Rattle.short_buffers.proofs.read_into.Tie as tie
 
@@ -44,7 +45,7 @@ table c = c .before .before .before .widen .last .1 .0
 abbrev lent : tie.After-read → ℕ
 lent c = c .before .before .before .before .before .before .before .before .before .before .args .len
 
-whole : (c : tie.After-read) → length (c .read .last .1 .0 ++ drop (lent c) (table c)) ≡ 32
+whole : (c : tie.After-read) → length (c .read .last .1 .0 ++ drop (lent c) (table c)) ≡ room
 whole c =
     same-len (lent c) (table c) (c .read .last .1 .0) (c .read .kept .1 .0) ∙ c .before .before .before .widen .ensures .0
 
