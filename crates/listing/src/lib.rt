@@ -12,7 +12,9 @@ ghost use Rattle.listing.specs.Lines.{spelled, answerText, lineSize, mos
 
 // The bytes of a line, more than any has; the nodes of a table, enough for every text; and its words.
 const LINE: usize = 160;
+
 const NODES: usize = 1024;
+
 const TABLE: usize = NODES * node::WORDS;
 
 // Puts `part` behind the first `n` bytes of a line, and answers how many bytes the line then has.

@@ -83,7 +83,15 @@ fn read_into(text: &[u8], len: usize)
     let mut table = [0u32; ROOM];
     widen(&bytes, &mut table);
     let a = reader::read(text, &mut table[..len]);
-    report(text, len, b" words: ", b"read", a, &table, a.count * node::WORDS);
+    report(
+        text,
+        len,
+        b" words: ",
+        b"read",
+        a,
+        &table,
+        a.count * node::WORDS,
+    );
 }
 
 // Canonicalizes a text into the first `len` bytes of a buffer.
