@@ -99,16 +99,8 @@ pub fn infix(
         (now (nodes .entry)) (l + r) (now (nodes .exit)) a ⌝ }
 {
     let n = l + r;
-    put_token(
-        nodes,
-        n,
-        INFIX,
-        base + l - 1,
-        base + n - 1,
-        tokens,
-        i,
-        role::precedence(role),
-    );
+    let p = role::precedence(role);
+    put_token(nodes, n, INFIX, base + l - 1, base + n - 1, tokens, i, p);
     n + 1
 }
 
@@ -126,16 +118,8 @@ pub fn unary(
     ensures { λ r. ⌜ Appended (tokenWords kind (base + n - 1) 0 (now (tokens .entry)) i (precedenceOf role))
         (now (nodes .entry)) n (now (nodes .exit)) r ⌝ }
 {
-    put_token(
-        nodes,
-        n,
-        kind,
-        base + n - 1,
-        0,
-        tokens,
-        i,
-        role::precedence(role),
-    );
+    let p = role::precedence(role);
+    put_token(nodes, n, kind, base + n - 1, 0, tokens, i, p);
     n + 1
 }
 

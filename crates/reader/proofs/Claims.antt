@@ -9,7 +9,7 @@ use mathlib.Core.Path.{_≡_}
 use mathlib.Core.Logic.{_↔_}
 use mathlib.Core.Bool.{true}
 use mathlib.Core.List.{List, [], _∷_}
-use Prim.Native.Nat.{ℕ, _≤_}
+use Prim.Native.Nat.{ℕ, _≤_, _<_}
 use lib.ListN.{length, take}
 use Rattle.grammar.specs.Bytes.{Bytes}
 use Rattle.grammar.specs.Token.{Token, isNumber}
@@ -19,6 +19,7 @@ use Rattle.grammar.specs.Spans.{Span, SpanOf}
 use Rattle.grammar.specs.SpanTree.{SpanTree, Admitted, root, rootPrecedence, yield}
 use Rattle.grammar.specs.Tree.{Tree, IsTree}
 use Rattle.grammar.specs.Blank.{Blank}
+use Rattle.grammar.specs.NodePrecedence.{NodePrecedence}
 use Rattle.grammar.specs.Widest.{widest}
 use Rattle.grammar.specs.Abstract.{Agree}
 use Rattle.grammar.specs.Canonical.{strip, stripDeclaration}
@@ -121,6 +122,14 @@ pub same-precedences :
     (f : Fixity) (a : Associativity) (m d e : Bytes) → isNumber d ≡ true → isNumber e ≡ true
     → (value d ≡ value e) ↔ (stripDeclaration (declares f a d m) ≡ stripDeclaration (declares f a e m))
 same-precedences = StripDeclarations.same-precedences
+
+-- Document 02, §6: "the sixth is the level at which it was read, and 0 for names, numbers, brackets and blocks. .. It must equal the level of the
+-- mark's role in the table in force there." Of every node of every text that is read: an operator's node has the precedence of the role of its
+-- fixity, in the operators in force in the span where the operator stands; any other node has 0. (`tree-held` says it of the tree, too.)
+pub node-precedences :
+    (text : Bytes) (N N′ : List ℕ) (a : Answer) → Reads text N N′ a → a .number ≡ 0 → (ts : List Token) → Past text ts
+    → (k : ℕ) → k < a .count → NodePrecedence text ts N′ k
+node-precedences = ReadCalls.node-precedences
 
 -- Document 02, §7: "A text that is empty or all blanks, past check 1, is now read: no nodes, and an empty tidy text". With any table and any
 -- buffer, of length 0 too; no word and no byte changes. No other text is read with nothing written.

@@ -2,13 +2,14 @@
 use mathlib.Core.Path.{_≡_, refl, sym, ap, subst, _∙_}
 use mathlib.Core.Bool.{Bool}
 use mathlib.Core.List.{List, _++_}
-use Prim.Native.Nat.{ℕ, _*_}
+use Prim.Native.Nat.{ℕ, _*_, _<_}
 use native.Mathlib.Omega.{arith}
 use lib.Dec.{leb}
 use lib.ListN.{length, take, drop}
 use lib.Seq.{take-append-seam, drop-append-seam}
 use borrow.Author.Tests.{leb-true, le-leb}
 use Rattle.grammar.specs.Bytes.{Bytes}
+use Rattle.grammar.specs.Token.{Token}
 use Rattle.grammar.specs.Outcome.{Outcome, refused, passed}
 use Rattle.grammar.specs.Declaration.{startTable, isReserved}
 use Rattle.grammar.specs.Tree.{Tree}
@@ -17,6 +18,7 @@ use Rattle.grammar.specs.Claim.{ReadingOf}
 use Rattle.grammar.specs.Answer as G
 use Rattle.grammar.specs.Answer.{Reading, offsetOf, readText, readInto, readingWords, over}
 use Rattle.grammar.specs.Spelling.{TokenAt}
+use Rattle.grammar.specs.Fault.{Past}
 use Rattle.grammar.specs.NodePrecedence.{NodePrecedence}
 use Rattle.grammar.proofs.Scanned.{length-tokens}
 use Rattle.grammar.proofs.TokenFaults.{token-at}
@@ -24,8 +26,9 @@ use Rattle.grammar.proofs.Operands.{words-length}
 use Rattle.grammar.proofs.Readings.{reading-of-tokens}
 use Rattle.grammar.proofs.ReadingTrees.{reading-operated}
 use Rattle.grammar.proofs.Decoding.{decode-tree, nodes-ordered, subtree-together}
-use Rattle.grammar.proofs.NodePrecedences.{node-precedences}
+use Rattle.grammar.proofs.NodePrecedences as NodePrecedences
 use Rattle.grammar.proofs.Rules.{reading-of, same-reading}
+use Rattle.grammar.proofs.BlankRules.{reading-tokens}
 use Rattle.reader.specs.declared.Answer.{Answer}
 use Rattle.reader.specs.Answered.{resultOf, Reads}
 use Rattle.reader.specs.Demands.{RightAnswer, TableFits, TableHolds, RightReading}
@@ -80,7 +83,7 @@ module _ (text : Bytes) (N N′ : List ℕ) (r : Reading) (e : readText text ≡
         declarations = NodeCharacters.node-blocks text r h is N N′ w;
         precedences =
             λ k l.
-            subst (λ ts. NodePrecedence text ts N′ k) (sym (is .tokens)) (rw w (node-precedences text (r .tokens) h (r .tree) is v k l));
+            subst (λ ts. NodePrecedence text ts N′ k) (sym (is .tokens)) (rw w (NodePrecedences.node-precedences text (r .tokens) h (r .tree) is v k l));
         behind = rw w (subst (λ n. drop n (readingWords text r ++ v) ≡ drop n N) size (drop-append-seam (readingWords text r) v));
       }
 
@@ -92,6 +95,14 @@ tree-held text N N′ a h z t i =
     Calls.success-reads 12 (tableFits N) nodesOf (readingWords text) (omega arith) text N N′ a (reading text N N′ a h) z in
     let same : r .tree ≡ t = same-reading text (r .tree) t (reading-of text r e) i in
     rw c (subst (λ u. TableHolds text N N′ (count (r .tree)) u) same (reading-holds text N N′ r e w))
+
+-- The precedence of each node, by the text's own tokens and their spans.
+pub node-precedences :
+    (text : Bytes) (N N′ : List ℕ) (a : Answer) → Reads text N N′ a → a .number ≡ 0 → (ts : List Token) → Past text ts
+    → (k : ℕ) → k < a .count → NodePrecedence text ts N′ k
+node-precedences text N N′ a h z ts p k l =
+    let (t, i, fits) = answers text N N′ a h .success .0 z in
+    subst (λ us. NodePrecedence text us N′ k) (reading-tokens text ts t p i) (tree-held text N N′ a h z t i .precedences k l)
 
 -- All that is asked of it.
 pub right : (text : Bytes) (N N′ : List ℕ) (a : Answer) → Reads text N N′ a → RightReading isReserved text N N′ a

@@ -40,7 +40,7 @@ same-length c = search needs
 returns : tie.Need-returns
 returns c = record {
   answer = refl;
-  written = put-words _ _ _ _ _ _ _ _ _ _ _ _ _ _ (c .before .before .put .ensures) (omega arith) refl (omega arith) (omega arith) refl;
+  written = put-words _ _ _ (c .before .before .put .ensures) (omega arith) refl (omega arith) (omega arith) refl;
 }
 
 pub block-spec : {M : Type 1} → statement M

@@ -9,6 +9,9 @@ use Rattle.nodes.proofs.node.infix.Tie as tie
 add-n : tie.Need-add-n
 add-n c = search needs
 
+precedence-requires : tie.Need-precedence-requires
+precedence-requires c κs = search needs
+
 add-put-token : tie.Need-add-put-token
 add-put-token c = search needs
 
@@ -20,9 +23,6 @@ add-put-token-2 c = search needs
 
 sub-put-token-2 : tie.Need-sub-put-token-2
 sub-put-token-2 c = search needs
-
-precedence-requires : tie.Need-precedence-requires
-precedence-requires c κs = search needs
 
 put-token-requires : tie.Need-put-token-requires
 put-token-requires c κs = search needs
@@ -37,8 +37,8 @@ returns : tie.Need-returns
 returns c = record {
   answer = refl;
   written =
-      put-words _ _ _ _ _ _ _ _ _ _ _ _ _ _ (c .before .before .put-token .ensures) (omega arith) (omega arith) refl refl
-      (c .before .before .before .precedence .ensures);
+      put-words _ _ _ (c .before .before .put-token .ensures) (omega arith) (omega arith) refl refl
+      (c .before .before .before .before .precedence .ensures);
 }
 
 pub infix-spec : {M : Type 1} → statement M
@@ -46,11 +46,11 @@ infix-spec =
     tie.close
     (tie.spec
     add-n
+    precedence-requires
     add-put-token
     sub-put-token
     add-put-token-2
     sub-put-token-2
-    precedence-requires
     put-token-requires
     add-result
     same-length

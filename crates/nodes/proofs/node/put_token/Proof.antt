@@ -23,7 +23,7 @@ same-length : tie.Need-same-length
 same-length c = search needs
 
 returns : tie.Need-returns
-returns c = put-words _ _ _ _ _ _ _ _ _ _ _ _ _ _ (c .before .before .put .ensures) refl refl (omega arith) (omega arith) refl
+returns c = put-words _ _ _ (c .before .before .put .ensures) refl refl (omega arith) (omega arith) refl
 
 pub put-token-spec : {M : Type 1} → statement M
 put-token-spec = tie.close (tie.spec start-requires size-requires put-requires same-length returns)
