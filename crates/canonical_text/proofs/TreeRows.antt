@@ -5,9 +5,8 @@ use mathlib.Core.Bool.{true, not}
 use mathlib.Core.List.{List, [], _∷_, _++_}
 use Prim.Native.Nat.{ℕ, suc, _+_, _≤_, _<_}
 use native.Mathlib.Omega.{arith}
-use lib.Dec.{eqb}
 use lib.ListN.{length, length-append}
-use borrow.Author.Tests.{eqb-true, eqb-false, ne-eqb}
+use borrow.Author.Tests.{eqb-true, eqb-false}
 use Rattle.grammar.specs.Bytes.{Bytes}
 use Rattle.grammar.specs.Token.{Atom, atom, structure, symbol, closing, keywordIn, keywordEnd}
 use Rattle.grammar.specs.Operator.{Table, role}
@@ -24,7 +23,7 @@ use Rattle.rows.specs.Standing.{mark}
 use Rattle.rows.specs.InUse.{roleBeside, roleInUse}
 use Rattle.rows.proofs.Fields.{within}
 use Rattle.rows.proofs.AtomRoles.{arrival-has, arrival-operand}
-use Rattle.rows.proofs.InUse.{use-none, use-beside, beside-code}
+use Rattle.rows.proofs.InUse.{use-none, use-beside, beside-code, mark-present}
 use Rattle.canonical_text.specs.Brackets.{held, Stands, TreeAt, Leads, there, through}
 
 -- How many tokens a tree has.
@@ -137,15 +136,6 @@ heldAt i (leaf a) = i
 heldAt i (bracket t) = heldAt (suc i) t
 heldAt i (block ds t) = i
 heldAt i (node l m r) = i + length (flat l)
-
--- A tree is there if a root is noted.
-pub mark-present : (i : ℕ) (t : Tree) → eqb (mark i t) 0 ≡ not (present (spanTree t))
-unfolding mark present spanTree
-mark-present i nothing = refl
-mark-present i (leaf a) = ne-eqb (suc i) 0 (λ e. omega arith)
-mark-present i (bracket t) = ne-eqb (suc i) 0 (λ e. omega arith)
-mark-present i (block ds t) = ne-eqb (suc i) 0 (λ e. omega arith)
-mark-present i (node l m r) = ne-eqb (suc (i + length (flat l))) 0 (λ e. omega arith)
 
 -- Its root stands among its tokens.
 pub record RootOf (i : ℕ) (t : Tree) : Type 0 where

@@ -1,6 +1,6 @@
 -- Document 02, §6: the precedence of each node of a text's table. The node is the root of a subtree, which stands in a span of the text under
 -- the operators in force there; if it is an operator's, it stands over its operands in a role of these.
-use mathlib.Core.Path.{_≡_, refl, sym, ap, subst, _∙_}
+use mathlib.Core.Path.{_≡_, refl, ap, subst, _∙_}
 use mathlib.Core.List.{List, _++_}
 use mathlib.Core.Option.{some}
 use Prim.Native.Nat.{ℕ, suc, _+_, _≤_, _<_}
@@ -15,7 +15,7 @@ use Rattle.grammar.specs.Declaration.{startTable}
 use Rattle.grammar.specs.Spans.{numberBehind}
 use Rattle.grammar.specs.SpanTree.{yield, rootPrecedence}
 use Rattle.grammar.specs.Tree.{Tree, nothing, leaf, bracket, block, node, flat, spanTree}
-use Rattle.grammar.specs.Nodes.{prefixKind, postfixKind, bracketKind, blockKind, leafKind, count, precedenceOver, words}
+use Rattle.grammar.specs.Nodes.{prefixKind, postfixKind, leafKind, count, precedenceOver, words}
 use Rattle.grammar.specs.Answer.{PastChecks, tokensOf, offsetOf}
 use Rattle.grammar.specs.Decoding.{nodeKind, nodeOffset, nodePrecedence}
 use Rattle.grammar.specs.NodePrecedence.{operatorKind, OperatorPrecedence, NodePrecedence, ofOperator, ofOperand}

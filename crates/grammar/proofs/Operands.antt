@@ -5,7 +5,7 @@ use Prim.Native.Nat.{ℕ, suc, _+_, _*_}
 use native.Mathlib.Omega.{arith}
 use lib.ListN.{length, length-append}
 use Rattle.grammar.specs.Operator.{Fixity, Prefix, Infix, Postfix, Table}
-use Rattle.grammar.specs.Declaration.{declareAll, allTokens}
+use Rattle.grammar.specs.Declaration.{declareAll}
 use Rattle.grammar.specs.SpanTree.{fixity, Admitted}
 use Rattle.grammar.specs.Tree.{Tree, nothing, leaf, bracket, block, node, flat, spanTree, InnerOk}
 use Rattle.grammar.specs.Nodes.{count, nodeWords, wordsPerNode, operatorWords, words}
@@ -34,15 +34,17 @@ operator-length Prefix l r o s p = refl
 operator-length Infix l r o s p = refl
 operator-length Postfix l r o s p = refl
 
--- A tree has six words for each of its nodes.
-pub words-length : (s : ℕ → ℕ) (T : Table) (t : Tree) (i n : ℕ) → Operated t → length (words s T t i n) ≡ wordsPerNode * count t
+-- A tree has six words for each of its nodes, whatever the operators.
+sized : (s : ℕ → ℕ) (t : Tree) → Operated t → (T : Table) (i n : ℕ) → length (words s T t i n) ≡ wordsPerNode * count t
 unfolding words count nodeWords
-words-length s T nothing i n h = refl
-words-length s T (leaf a) i n h = refl
-words-length s T (bracket t) i n h = simp length-append (omega (arith, words-length s T t (suc i) n h))
-words-length s T (block ds t) i n h =
-    simp length-append (omega (arith, words-length s (declareAll T ds) t (suc (suc (i + length (allTokens ds)))) n h))
-words-length s T (node l m r) i n h =
+sized s nothing h T i n = refl
+sized s (leaf a) h T i n = refl
+sized s (bracket t) h T i n = let inside = sized s t h in simp (length-append, inside) (omega arith)
+sized s (block ds t) h T i n = let body = sized s t h in simp (length-append, body) (omega arith)
+sized s (node l m r) h T i n =
     rw (h .2 .1)
     (simp (length-append, operator-length)
-    (omega (arith, words-length s T l i n (h .0), words-length s T r (suc (i + length (flat l))) (n + count l) (h .1))))
+    (omega (arith, sized s l (h .0) T i n, sized s r (h .1) T (suc (i + length (flat l))) (n + count l))))
+
+pub words-length : (s : ℕ → ℕ) (T : Table) (t : Tree) (i n : ℕ) → Operated t → length (words s T t i n) ≡ wordsPerNode * count t
+words-length s T t i n h = sized s t h T i n

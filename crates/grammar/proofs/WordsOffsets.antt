@@ -8,10 +8,10 @@ use lib.ListN.{length, length-append}
 use Rattle.grammar.specs.Bytes.{Bytes}
 use Rattle.grammar.specs.Token.{Atom, characters}
 use Rattle.grammar.specs.Operator.{Table}
-use Rattle.grammar.specs.Declaration.{Declaration, declareAll, allTokens}
+use Rattle.grammar.specs.Declaration.{Declaration, allTokens}
 use Rattle.grammar.specs.SpanTree.{fixity}
 use Rattle.grammar.specs.Tree.{Tree, nothing, leaf, bracket, block, node, flat, spanTree}
-use Rattle.grammar.specs.Nodes.{bracketKind, blockKind, leafKind, operatorWords, precedenceOver, charactersOffset, count, nodeWords, words}
+use Rattle.grammar.specs.Nodes.{leafKind, operatorWords, precedenceOver, charactersOffset, count, nodeWords, words}
 
 -- How many tokens a tree has.
 leaf-size : (a : Atom) → length (flat (leaf a)) ≡ 1
@@ -30,6 +30,10 @@ pub node-size : (l : Tree) (m : Bytes) (r : Tree) → length (flat (node l m r))
 unfolding flat
 node-size l m r = simp length-append (omega arith)
 
+-- The same words behind equal ones.
+behind : {u v : List ℕ} → u ≡ v → (w : List ℕ) → u ++ w ≡ v ++ w
+behind e w = ap (λ x. x ++ w) e
+
 -- The words of a tree depend only on the offsets of its own tokens.
 pub words-offsets :
     (f g : ℕ → ℕ) (T : Table) (t : Tree) (i n : ℕ) → ((j : ℕ) → i ≤ j → j < i + length (flat t) → f j ≡ g j)
@@ -39,14 +43,12 @@ words-offsets f g T nothing i n h = refl
 words-offsets f g T (leaf t) i n h =
     ap (λ a. nodeWords (leafKind t) 0 0 (charactersOffset t a) (length (characters t)) 0) (h i (omega arith) (omega (arith, leaf-size t)))
 words-offsets f g T (bracket t) i n h =
-    ap (λ w. w ++ nodeWords bracketKind (pred (n + count t)) 0 0 0 0)
-    (words-offsets f g T t (suc i) n (λ j p q. h j (omega arith) (omega (arith, bracket-size t))))
+    behind (words-offsets f g T t (suc i) n (λ j p q. h j (omega arith) (omega (arith, bracket-size t)))) _
 words-offsets f g T (block ds t) i n h =
     let e = block-size ds t in
     let k = i + length (allTokens ds) in
     rw (h i (omega arith) (omega arith), h (suc k) (omega arith) (omega arith))
-    (ap (λ w. w ++ nodeWords blockKind (pred (n + count t)) 0 (g i) (g (suc k) + 2 - g i) 0)
-    (words-offsets f g (declareAll T ds) t (suc (suc k)) n (λ j p q. h j (omega arith) (omega arith))))
+    (behind (words-offsets f g _ t (suc (suc k)) n (λ j p q. h j (omega arith) (omega arith))) _)
 words-offsets f g T (node l m r) i n h =
     let e = node-size l m r in
     let k = i + length (flat l) in

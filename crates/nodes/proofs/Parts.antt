@@ -6,7 +6,8 @@ use Prim.Native.Nat.{ℕ, _+_, _-_, _≤_, _<_}
 use lib.Dec.{ltb, eqb}
 use borrow.Author.Tests.{eq-eqb, ne-eqb, lt-ltb, le-ltb}
 use Rattle.grammar.specs.Nodes.{prefixKind, infixKind, postfixKind, bracketKind, nodeWords}
-use Rattle.rows.specs.Fields.{kind, closer, prefix, infixed, postfix, left, right}
+use Rattle.rows.specs.Fields.{kind, closer, left, right}
+use Rattle.rows.specs.InUse.{roleBeside}
 use Rattle.nodes.specs.Node.{precedenceOf, tokenWords, atomWords, blockWords, prefixOrInfixWords}
 use Rattle.nodes.specs.Building.{Rows}
 use Rattle.nodes.specs.First.{openerOf, spanPart, operandPart, firstPart}
@@ -21,15 +22,15 @@ pub opener-block : (K : List ℕ) (i : ℕ) → (kind K i ≡ 4 → ⊥) → ope
 unfolding openerOf
 opener-block K i e = rw (ne-eqb (kind K i) 4 e, openerOf)
 
-pub prefix-words : (base l n : ℕ) (K R : List ℕ) (i : ℕ) → l ≡ 0
-    → prefixOrInfixWords base l n K R i ≡ tokenWords prefixKind (base + n - 1) 0 K i (precedenceOf (prefix R i))
+pub prefix-words : (base l n : ℕ) (K : List ℕ) (i p : ℕ) → l ≡ 0
+    → prefixOrInfixWords base l n K i p ≡ tokenWords prefixKind (base + n - 1) 0 K i p
 unfolding prefixOrInfixWords
-prefix-words base l n K R i e = rw (eq-eqb l 0 e, prefixOrInfixWords)
+prefix-words base l n K i p e = rw (eq-eqb l 0 e, prefixOrInfixWords)
 
-pub infix-words : (base l n : ℕ) (K R : List ℕ) (i : ℕ) → (l ≡ 0 → ⊥)
-    → prefixOrInfixWords base l n K R i ≡ tokenWords infixKind (base + l - 1) (base + n - 1) K i (precedenceOf (infixed R i))
+pub infix-words : (base l n : ℕ) (K : List ℕ) (i p : ℕ) → (l ≡ 0 → ⊥)
+    → prefixOrInfixWords base l n K i p ≡ tokenWords infixKind (base + l - 1) (base + n - 1) K i p
 unfolding prefixOrInfixWords
-infix-words base l n K R i e = rw (ne-eqb l 0 e, prefixOrInfixWords)
+infix-words base l n K i p e = rw (ne-eqb l 0 e, prefixOrInfixWords)
 
 pub operand-none : (m from to : ℕ) → m ≡ 0 → operandPart m from to ≡ Nothing
 unfolding operandPart
@@ -70,6 +71,10 @@ module _ (K O : List ℕ) (i : ℕ) where
     pub second-some : (to : ℕ) {r : ℕ} → r ≡ right O i → (r ≡ 0 → ⊥) → secondPart K O i to ≡ Of (i + 1) (r - 1) to
     second-some to e f = second-right to ∙ rw e (operand-some (right O i) (i + 1) to (λ z. f (e ∙ z)))
 
+-- The number of the role of token number `i` with `l` nodes on its left.
+abbrev pub lastRole : Rows → ℕ → ℕ → ℕ
+lastRole M i l = roleBeside (M .roles) i l (right (M .roots) i)
+
 -- The words of the node of token number `i`: before it stand `m` nodes from number `n` on, `l` of them those of the first part.
 unfoldable pub lastWords : Rows → ℕ → ℕ → ℕ → ℕ → List ℕ
 lastWords M i n l m =
@@ -85,18 +90,15 @@ lastWords M i n l m =
             | true ↦
                 elim (eqb l 0) [
                   | true ↦ atomWords K i
-                  | false ↦ tokenWords postfixKind (n + m - 1) 0 K i (precedenceOf (postfix (M .roles) i))
+                  | false ↦ tokenWords postfixKind (n + m - 1) 0 K i (precedenceOf (lastRole M i l))
                 ]
-            | false ↦ prefixOrInfixWords n l m K (M .roles) i
+            | false ↦ prefixOrInfixWords n l m K i (precedenceOf (lastRole M i l))
           ]
     ]
 
 module _ (M : Rows) (i : ℕ) where
   abbrev K : List ℕ
   K = M .tokens
-
-  abbrev R : List ℕ
-  R = M .roles
 
   abbrev O : List ℕ
   O = M .roots
@@ -116,10 +118,10 @@ module _ (M : Rows) (i : ℕ) where
     last-atom e n l m f = rw (le-ltb 3 (kind K i) is-atom, eq-eqb (right O i) 0 e, eq-eqb l 0 f, lastWords)
 
     pub last-postfix :
-        right O i ≡ 0 → (n l m : ℕ) → (l ≡ 0 → ⊥) → lastWords M i n l m ≡ tokenWords postfixKind (n + m - 1) 0 K i (precedenceOf (postfix R i))
+        right O i ≡ 0 → (n l m : ℕ) → (l ≡ 0 → ⊥) → lastWords M i n l m ≡ tokenWords postfixKind (n + m - 1) 0 K i (precedenceOf (lastRole M i l))
     unfolding lastWords
     last-postfix e n l m f = rw (le-ltb 3 (kind K i) is-atom, eq-eqb (right O i) 0 e, ne-eqb l 0 f, lastWords)
 
-    pub last-right : (right O i ≡ 0 → ⊥) → (n l m : ℕ) → lastWords M i n l m ≡ prefixOrInfixWords n l m K R i
+    pub last-right : (right O i ≡ 0 → ⊥) → (n l m : ℕ) → lastWords M i n l m ≡ prefixOrInfixWords n l m K i (precedenceOf (lastRole M i l))
     unfolding lastWords
     last-right e n l m = rw (le-ltb 3 (kind K i) is-atom, ne-eqb (right O i) 0 e, lastWords)

@@ -1,14 +1,16 @@
 -- The children of a tree that stands in the rows are its parts as the builder's tests see them: what its root's token has as first and
 -- second part. The words of its last node go by the same tests.
 use mathlib.Core.Path.{_≡_, refl, sym, ap, _∙_}
-use mathlib.Core.Bool.{Bool, true, false, _||_}
+use mathlib.Core.Bool.{Bool, true, false, not, _||_}
 use mathlib.Core.List.{List, _++_, append-assoc, append-nil}
-use mathlib.Core.Option.{some}
+use mathlib.Core.Option.{Option, none, some}
 use Prim.Native.Nat.{ℕ, zero, suc, pred, _+_, _-_, _*_, _≤_, _<_}
 use native.Mathlib.Numerals.{add-one}
 use native.Mathlib.Nat.{add-zero}
 use native.Mathlib.Omega.{arith}
+use lib.Dec.{eqb}
 use lib.ListN.{length, length-append}
+use borrow.Author.Tests.{eq-eqb, ne-eqb}
 use Rattle.grammar.specs.Bytes.{Bytes}
 use Rattle.grammar.specs.Token.{Atom, atom, symbol, number, quoted}
 use Rattle.grammar.specs.Operator.{Fixity, Prefix, Infix, Postfix, Table, role}
@@ -19,12 +21,15 @@ use Rattle.grammar.specs.Nodes.{leafKind, count, operatorWords, wordsPerNode, p
 use Rattle.grammar.specs.Coded.{kindOf}
 use Rattle.grammar.proofs.Logic.{impossible}
 use Rattle.grammar.proofs.Operands.{Operated, words-length}
+use Rattle.grammar.proofs.Present.{counted}
 use Rattle.grammar.proofs.WordsOffsets.{bracket-size, block-size, node-size}
-use Rattle.rows.specs.Fields.{kind, start, prefix, infixed, postfix, left, right}
-use Rattle.rows.specs.Codes.{roleCode, roleOf, Fit, IsRole}
-use Rattle.rows.specs.Agreeing.{rolesFor, Noted}
+use Rattle.rows.specs.Fields.{kind, start, left, right}
+use Rattle.rows.specs.Codes.{roleCode, Fit, IsRole}
+use Rattle.rows.specs.Agreeing.{Noted}
+use Rattle.rows.specs.InUse.{roleBeside}
 use Rattle.rows.specs.Standing.{mark, Rooted, Tokened, Roled}
 use Rattle.rows.proofs.Codes.{role-code, code-role}
+use Rattle.rows.proofs.InUse.{beside-none, beside-code, mark-present}
 use Rattle.nodes.specs.Node.{precedenceOf, atomKind}
 use Rattle.nodes.specs.First.{openerOf, operandPart, firstPart}
 use Rattle.nodes.specs.Building.{Rows, Stands}
@@ -38,6 +43,7 @@ use Rattle.nodes.proofs.Parts.{
   operand-none,
   operand-some,
   secondPart,
+  lastRole,
   lastWords,
   first-span,
   second-none,
@@ -81,6 +87,19 @@ present-marked i (leaf a) e = omega arith
 present-marked i (bracket t) e = omega arith
 present-marked i (block ds t) e = omega arith
 present-marked i (node l m r) e = omega arith
+
+uncounted : (t : Tree) → present (spanTree t) ≡ false → count t ≡ 0
+unfolding count present spanTree
+uncounted nothing e = refl
+uncounted (leaf a) e = impossible cc
+uncounted (bracket t) e = impossible cc
+uncounted (block ds t) e = impossible cc
+uncounted (node l m r) e = impossible cc
+
+-- 0 is the number of no role.
+no-role-coded : IsRole 0
+unfolding roleCode
+no-role-coded = code-role none tt
 
 -- The kind of an atom's token, and of its node.
 atom-low : (a : Atom) → kindOf (atom a) ≤ 3
@@ -162,33 +181,28 @@ abbrev pub childrenWords : (ℕ → ℕ) → Table → Tree → ℕ → ℕ → 
 childrenWords places T t i n =
     words places (firstTable T t) (firstOf t) (firstFrom i t) n ++ words places T (secondOf t) (mark i t) (n + count (firstOf t))
 
--- What is noted of an operator: the number of each of its roles, and so their precedences.
+-- A tree is there if it has a node.
+count-present : (t : Tree) → eqb (count t) 0 ≡ not (present (spanTree t))
+count-present t = go (present (spanTree t)) refl
+  where
+    go : (b : Bool) → present (spanTree t) ≡ b → eqb (count t) 0 ≡ not (present (spanTree t))
+    go true p = rw p (ne-eqb (count t) 0 (λ e. omega (arith, counted t p)))
+    go false p = rw p (eq-eqb (count t) 0 (uncounted t p))
+
+-- The role that an operator has by its operands: its number in the row of roles, and so its precedence.
 module _ {T : Table} {R : List ℕ} {i : ℕ} {m : Bytes} (n : Noted T R i (symbol m)) (fit : (f : Fixity) → Fit (role T m f)) where
-  abbrev Numbered : ℕ → Fixity → Type 0
-  Numbered c f = IsRole c × (precedenceOf c ≡ rootPrecedence (role T m f))
+  fit-of : (g : Option Fixity) → Fit (roleOfFixity T m g)
+  unfolding roleOfFixity
+  fit-of none = tt
+  fit-of (some f) = fit f
 
-  numbered : (f : Fixity) {c : ℕ} → c ≡ roleCode (role T m f) → Numbered c f
-  numbered f e =
-      rw e (code-role (role T m f) (fit f), ap rootPrecedence (role-code (role T m f) (fit f)))
-
-  prefix-numbered : Numbered (prefix R i) Prefix
-  unfolding rolesFor
-  prefix-numbered = numbered Prefix (n .prefixed)
-
-  infix-numbered : Numbered (infixed R i) Infix
-  unfolding rolesFor
-  infix-numbered = numbered Infix (n .between)
-
-  postfix-numbered : Numbered (postfix R i) Postfix
-  unfolding rolesFor
-  postfix-numbered = numbered Postfix (n .postfixed)
-
--- The precedence of an operator over its operands, by its fixity there.
-precedence-formed :
-    (T : Table) (l : Tree) (m : Bytes) (r : Tree) (f : Fixity) → fixity (spanTree l) (spanTree r) ≡ some f
-    → precedenceOver T l m r ≡ rootPrecedence (role T m f)
-unfolding roleOver roleOfFixity
-precedence-formed T l m r f e = ap (λ g. rootPrecedence (roleOfFixity T m g)) e
+  beside-operands : (l r : Tree) (x y : ℕ) → eqb x 0 ≡ not (present (spanTree l)) → eqb y 0 ≡ not (present (spanTree r))
+      → IsRole (roleBeside R i x y) × (precedenceOf (roleBeside R i x y) ≡ precedenceOver T l m r)
+  unfolding roleOver fixity
+  beside-operands l r x y e f =
+      let o = roleOver T (spanTree l) m (spanTree r) in
+      let fits = fit-of (fixity (spanTree l) (spanTree r)) in
+      rw (beside-code T R i m n x y (present (spanTree l)) (present (spanTree r)) e f) (code-role o fits, ap rootPrecedence (role-code o fits))
 
 module _ (places : ℕ → ℕ) (M : Rows) where
   abbrev K : List ℕ
@@ -246,13 +260,9 @@ module _ (places : ℕ → ℕ) (M : Rows) where
     pub within : o < to
     pub root : 1 ≤ left O o
 
-  -- The roles of the operator at token number `at` have numbers.
-  abbrev pub Coded : ℕ → Type 0
-  Coded at = IsRole (prefix R at) × IsRole (infixed R at) × IsRole (postfix R at)
-
   pub record Shape (T : Table) (from at to : ℕ) (t : Tree) : Type 0 where
     pub opened : 3 < kind K at → Opened at to (openerOf K at)
-    pub coded : kind K at ≤ 3 → 1 ≤ count (firstOf t) + count (secondOf t) → Coded at
+    pub coded : kind K at ≤ 3 → IsRole (lastRole M at (count (firstOf t)))
     pub first : StandsIn (firstTable T t) from to t (firstFrom from t) (firstOf t) (firstPart K O from at)
     pub second : StandsIn T from to t (mark from t) (secondOf t) (secondPart K O at to)
     pub nodes : count t ≡ count (firstOf t) + count (secondOf t) + 1
@@ -266,7 +276,7 @@ module _ (places : ℕ → ℕ) (M : Rows) where
       let is-atom : kind K from ≤ 3 = omega (arith, atom-low a, k .0) in
       record {
         opened = λ h. absurd (omega arith);
-        coded = λ h l. absurd (omega arith);
+        coded = λ h. rw (beside-none R from 0 (right O from) refl (s .rooted .1)) no-role-coded;
         first = rw (first-left K O from is-atom from, operand-none (left O from) from from (s .rooted .0));
         second = rw (second-absent K O from is-atom to (s .rooted .1));
         nodes = refl;
@@ -285,7 +295,7 @@ module _ (places : ℕ → ℕ) (M : Rows) where
       let opener = opener-bracket K from (k .0) in
       record {
         opened = λ h. rw opener (record { starts = λ up. omega arith; within = omega arith; root = omega (arith, o .0) });
-        coded = λ h l. absurd (omega arith);
+        coded = λ h. absurd (omega arith);
         first = rw (first-span K O from is-structure from, opener) (
           add-one from,
           record {
@@ -319,7 +329,7 @@ module _ (places : ℕ → ℕ) (M : Rows) where
           within = omega arith;
           root = omega (arith, o .0);
         });
-        coded = λ h l. absurd (omega arith);
+        coded = λ h. absurd (omega arith);
         first = rw (first-span K O from is-structure from, opener) (
           add-one c,
           record {
@@ -356,11 +366,9 @@ module _ (places : ℕ → ℕ) (M : Rows) where
     is-atom : kind K place ≤ 3
     is-atom = omega (arith, s .tokened .0)
 
-    noted : Noted T R place (symbol m)
-    noted = s .roled .0
-
-    fits : (f : Fixity) → Fit (role T m f)
-    fits = s .roled .1
+    role-here : IsRole (lastRole M place (count l)) × (precedenceOf (lastRole M place (count l)) ≡ precedenceOver T l m r)
+    role-here =
+        beside-operands (s .roled .0) (s .roled .1) l r (count l) (right O place) (count-present l) (ap (λ x. eqb x 0) (s .rooted .1) ∙ mark-present (suc place) r)
 
     -- An operand stands in its part, or it is missing.
     operand-stands :
@@ -383,9 +391,8 @@ module _ (places : ℕ → ℕ) (M : Rows) where
         let f = formed-of l r false true (rw e absent) (marked (suc place) r h .there) in
         rw (
           last-right M place is-atom (λ q. omega (arith, s .rooted .1)) n (count l) (count l + count r),
-          prefix-words n (count l) (count l + count r) K R place none,
-          prefix-numbered noted fits .1,
-          precedence-formed T l m r Prefix f,
+          prefix-words n (count l) (count l + count r) K place _ none,
+          role-here .1,
           f,
           s .tokened .1,
           s .tokened .2,
@@ -400,8 +407,7 @@ module _ (places : ℕ → ℕ) (M : Rows) where
         let f = formed-of l r true false (marked from l h .there) (rw e absent) in
         rw (
           last-postfix M place is-atom (s .rooted .1 ∙ q) n (count l) (count l + count r) (λ z. omega (arith, marked from l h .some)),
-          postfix-numbered noted fits .1,
-          precedence-formed T l m r Postfix f,
+          role-here .1,
           f,
           s .tokened .1,
           s .tokened .2,
@@ -415,9 +421,8 @@ module _ (places : ℕ → ℕ) (M : Rows) where
         let f = formed-of l r true true (marked from l h .there) (marked (suc place) r g .there) in
         rw (
           last-right M place is-atom (λ q. omega (arith, s .rooted .1)) n (count l) (count l + count r),
-          infix-words n (count l) (count l + count r) K R place (λ z. omega (arith, marked from l h .some)),
-          infix-numbered noted fits .1,
-          precedence-formed T l m r Infix f,
+          infix-words n (count l) (count l + count r) K place _ (λ z. omega (arith, marked from l h .some)),
+          role-here .1,
           f,
           s .tokened .1,
           s .tokened .2,
@@ -443,7 +448,7 @@ module _ (places : ℕ → ℕ) (M : Rows) where
         let o = s .rooted in
         record {
           opened = λ h. absurd (omega (arith, is-atom));
-          coded = λ h l. (prefix-numbered noted fits .0, infix-numbered noted fits .0, postfix-numbered noted fits .0);
+          coded = λ h. role-here .0;
           first = rw (first-left K O place is-atom from)
               (operand-stands l from (left O place) from place (k .4) (s .roled .2) (o .2) (o .0) refl refl (omega arith) (omega arith) (omega arith));
           second = rw (second-right K O place is-atom to)

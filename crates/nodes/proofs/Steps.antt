@@ -12,6 +12,7 @@ use Rattle.grammar.specs.Tree.{Tree, nothing}
 use Rattle.grammar.specs.Nodes.{count, words, wordsPerNode}
 use Rattle.grammar.specs.Answer.{over}
 use Rattle.rows.specs.Fields.{kind, start, left, right, Within}
+use Rattle.rows.specs.Codes.{IsRole}
 use Rattle.rows.specs.Standing.{mark}
 use Rattle.nodes.specs.Node.{atomWords, HasNode, Appended}
 use Rattle.nodes.specs.First.{openerOf, firstPart, HasFirst}
@@ -19,7 +20,7 @@ use Rattle.nodes.specs.Building.{Rows, Stands, Buildable, Built}
 use Rattle.nodes.specs.declared.build.Part.{Part}
 use Rattle.nodes.specs.declared.build.Part.the-variants.{Nothing, Of}
 use Rattle.nodes.proofs.Over.{over-none, over-length, over-node, lent-length, over-lent}
-use Rattle.nodes.proofs.Parts.{secondPart, lastWords, operand-none, first-left, second-absent, last-atom}
+use Rattle.nodes.proofs.Parts.{secondPart, lastRole, lastWords, operand-none, first-left, second-absent, last-atom}
 use Rattle.nodes.proofs.Shapes.{
   firstOf,
   secondOf,
@@ -28,7 +29,6 @@ use Rattle.nodes.proofs.Shapes.{
   childrenWords,
   Child,
   StandsIn,
-  Coded,
   Shape,
   stands-root,
   stands-size,
@@ -170,6 +170,10 @@ module _ {M : Rows} {N N₁ : List ℕ} {from at to base l : ℕ} (h : Buildable
       let c = rw p at (its-shape h .first) in
       omega (arith, b .counted (h .places) (h .table) (h .tree) (h .stands), stands-root (h .places) M (c .1 .stands) .0)
 
+  -- Its role has a number.
+  pub last-coded : kind (M .tokens) at ≤ 3 → IsRole (lastRole M at l)
+  last-coded k = rw (b .counted (h .places) (h .table) (h .tree) (h .stands)) (its-shape h .coded k)
+
   -- There is no second part.
   pub children-one : {m : ℕ} → secondPart (M .tokens) (M .roots) at to ≡ Nothing → m ≡ l → ChildrenBuilt M from at to N base N₁ m
   children-one p e = record {
@@ -220,10 +224,6 @@ module _ {M : Rows} {N N₂ : List ℕ} {from at to base m : ℕ} (h : Buildable
       let f = childrenWords (h .places) (h .table) (h .tree) from base in
       let z = ap length (g .written (h .places) (h .table) (h .tree) (h .stands)) ∙ over-length f N (omega (arith, h .room)) in
       (omega (arith, h .few), omega (arith, h .room), z)
-
-  -- An operator with an operand has numbers for roles.
-  pub last-coded : kind (M .tokens) at ≤ 3 → 1 ≤ m → Coded (h .places) M at
-  last-coded k l = its-shape h .coded k (omega (arith, g .counted (h .places) (h .table) (h .tree) (h .stands)))
 
   pub done : {N₁ N₃ : List ℕ} {l a : ℕ} (w : List ℕ) → FirstBuilt M from at to N base N₁ l → Appended w N₂ m N₃ a
       → w ≡ lastWords M at base l m → Built M from at to N base N₃ a

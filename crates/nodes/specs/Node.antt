@@ -8,7 +8,7 @@ use lib.ListN.{length}
 use lib.Seq.{sets}
 use Rattle.grammar.specs.SpanTree.{rootPrecedence}
 use Rattle.grammar.specs.Nodes.{nodeWords, nameKind, numberKind, prefixKind, infixKind, blockKind, wordsPerNode}
-use Rattle.rows.specs.Fields.{kind, start, size, prefix, infixed, left, right}
+use Rattle.rows.specs.Fields.{kind, start, size, left, right}
 use Rattle.rows.specs.Codes.{roleOf}
 
 -- The precedence of the role with the number `c`.
@@ -31,11 +31,11 @@ blockWords first K i c = nodeWords blockKind first 0 (start K i) (start K c + 2 
 
 -- The words of the node of an operator with an operand on its right, `n` nodes from number `base` on before it, `l` of them those of an
 -- operand on its left: a prefix operator where there are none.
-unfoldable pub prefixOrInfixWords : ℕ → ℕ → ℕ → List ℕ → List ℕ → ℕ → List ℕ
-prefixOrInfixWords base l n K R i =
+unfoldable pub prefixOrInfixWords : ℕ → ℕ → ℕ → List ℕ → ℕ → ℕ → List ℕ
+prefixOrInfixWords base l n K i precedence =
     elim (eqb l 0) [
-      | true ↦ tokenWords prefixKind (base + n - 1) 0 K i (precedenceOf (prefix R i))
-      | false ↦ tokenWords infixKind (base + l - 1) (base + n - 1) K i (precedenceOf (infixed R i))
+      | true ↦ tokenWords prefixKind (base + n - 1) 0 K i precedence
+      | false ↦ tokenWords infixKind (base + l - 1) (base + n - 1) K i precedence
     ]
 
 -- Token number `i` is an atom without operands.

@@ -1,13 +1,12 @@
 // The words of one node: kind, first child, second child, offset, length, precedence.
 use rows::kinds;
 use rows::role;
-use rows::roles;
 use rows::tokens as row;
 ghost use mathlib.Core.Path.{_≡_};
 ghost use Prim.Native.Nat.{_+_, _-_, _*_, _≤_};
 ghost use lib.Seq.{sets};
 ghost use Rattle.grammar.specs.Nodes.{nodeWords, wordsPerNode, infixKind, bracketKind};
-ghost use Rattle.rows.specs.Fields.{Within, start, prefix, infixed};
+ghost use Rattle.rows.specs.Fields.{Within, start};
 ghost use Rattle.rows.specs.Codes.{IsRole};
 ghost use Rattle.nodes.specs.Node.{precedenceOf, tokenWords, atomWords, blockWords, prefixOrInfixWords, HasNode, IsWord, EndsInChild, Appended};
 
@@ -123,25 +122,24 @@ pub fn unary(
     n + 1
 }
 
-// The node of an operator behind the `l` nodes of its left operand, 0 if it has none, and the `r` nodes of its right one.
+// The node of an operator in the role, behind the `l` nodes of its left operand, 0 if it has none, and the `r` nodes of its right one.
 pub fn prefix_or_infix(
     tokens: &[u16],
-    roles: &[u16],
     i: usize,
+    role: u16,
     base: usize,
     l: usize,
     r: usize,
     nodes: &mut [u32],
 ) -> usize
-    requires { ⌜ Within 4 (now tokens) i × Within 4 (now roles) i × IsRole (prefix (now roles) i) × IsRole (infixed (now roles) i)
-        × (1 ≤ r) × (base + (l + r) ≤ 4096) × HasNode (now nodes) (l + r) ⌝ }
-    ensures { λ a. ⌜ Appended (prefixOrInfixWords base l (l + r) (now (tokens .entry)) (now (roles .entry)) i)
+    requires { ⌜ Within 4 (now tokens) i × IsRole role × (1 ≤ r) × (base + (l + r) ≤ 4096) × HasNode (now nodes) (l + r) ⌝ }
+    ensures { λ a. ⌜ Appended (prefixOrInfixWords base l (l + r) (now (tokens .entry)) i (precedenceOf role))
         (now (nodes .entry)) (l + r) (now (nodes .exit)) a ⌝ }
 {
     if l == 0 {
-        return unary(tokens, i, PREFIX, roles::prefix(roles, i), base, r, nodes);
+        return unary(tokens, i, PREFIX, role, base, r, nodes);
     }
-    infix(tokens, i, roles::infix(roles, i), base, l, r, nodes)
+    infix(tokens, i, role, base, l, r, nodes)
 }
 
 // The node of a bracket pair behind the `n` nodes of its inside.

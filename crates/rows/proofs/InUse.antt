@@ -1,19 +1,23 @@
 -- The number of an operator's role by the operands that it has, case by case. Where the row of roles has the roles in force, it is that
 -- of the role in which the operator stands over its operands.
-use mathlib.Core.Path.{_≡_, _∙_}
+use mathlib.Core.Path.{_≡_, refl, _∙_}
 use mathlib.Core.Bool.{Bool, true, false, not}
 use mathlib.Core.List.{List}
-use Prim.Native.Nat.{ℕ}
+use Prim.Native.Nat.{ℕ, suc, _+_}
+use native.Mathlib.Omega.{arith}
 use lib.Dec.{eqb}
+use lib.ListN.{length}
 use borrow.Author.Tests.{eq-eqb, ne-eqb, eqb-true, eqb-false}
 use Rattle.grammar.specs.Bytes.{Bytes}
 use Rattle.grammar.specs.Token.{symbol}
 use Rattle.grammar.specs.Operator.{Table}
-use Rattle.grammar.specs.SpanTree.{fixityBy, roleOfFixity}
+use Rattle.grammar.specs.SpanTree.{present, fixityBy, roleOfFixity}
+use Rattle.grammar.specs.Tree.{Tree, nothing, leaf, bracket, block, node, flat, spanTree}
 use Rattle.rows.specs.Fields.{prefix, infixed, postfix, arrival, left, right}
 use Rattle.rows.specs.Codes.{roleCode}
 use Rattle.rows.specs.Agreeing.{rolesFor, Noted}
 use Rattle.rows.specs.InUse.{roleBeside, roleInUse}
+use Rattle.rows.specs.Standing.{mark}
 
 module _ (R : List ℕ) (i l r : ℕ) where
   pub beside-none : l ≡ 0 → r ≡ 0 → roleBeside R i l r ≡ 0
@@ -50,3 +54,12 @@ beside-code T R i m n l r true true e f = beside-infix R i l r (eqb-false l 0 e)
 beside-code T R i m n l r true false e f = beside-postfix R i l r (eqb-false l 0 e) (eqb-true r 0 f) ∙ n .postfixed
 beside-code T R i m n l r false true e f = beside-prefix R i l r (eqb-true l 0 e) (eqb-false r 0 f) ∙ n .prefixed
 beside-code T R i m n l r false false e f = beside-none R i l r (eqb-true l 0 e) (eqb-true r 0 f)
+
+-- An operand is there if its root is noted.
+pub mark-present : (i : ℕ) (t : Tree) → eqb (mark i t) 0 ≡ not (present (spanTree t))
+unfolding mark present spanTree
+mark-present i nothing = refl
+mark-present i (leaf a) = ne-eqb (suc i) 0 (λ e. omega arith)
+mark-present i (bracket t) = ne-eqb (suc i) 0 (λ e. omega arith)
+mark-present i (block ds t) = ne-eqb (suc i) 0 (λ e. omega arith)
+mark-present i (node l m r) = ne-eqb (suc (i + length (flat l))) 0 (λ e. omega arith)

@@ -4,7 +4,7 @@ use mathlib.Core.Bool.{true, _||_}
 use mathlib.Core.List.{List}
 use Prim.Native.Nat.{ℕ, suc, _+_}
 use lib.ListN.{length}
-use Rattle.grammar.specs.Token.{atom, symbol, number, quoted, characters}
+use Rattle.grammar.specs.Token.{atom, symbol, characters}
 use Rattle.grammar.specs.Operator.{Fixity, Table, role}
 use Rattle.grammar.specs.Declaration.{declareAll, allTokens}
 use Rattle.grammar.specs.SpanTree.{present}

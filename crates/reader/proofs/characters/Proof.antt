@@ -37,7 +37,7 @@ cut-requires-2 c κs = search needs
 
 returns-2 : tie.Need-returns-2
 returns-2 c =
-    c .cut2 .ensures ∙ no-node _ _ _ (c .before .if2 .taken)
+    c .cut2 .ensures ∙ no-node _ _ _ (omega (arith, c .before .if2 .taken))
 
 add-at : tie.Need-add-at
 add-at c = search needs

@@ -14,7 +14,7 @@ refused-requires c κs = search needs
 
 returns : tie.Need-returns
 returns c =
-    λ text f. rw (c .refused .ensures) (reads-short f _ (c .before .if1 .taken))
+    λ text f. rw (c .refused .ensures) (reads-short f _ (omega (arith, c .before .if1 .taken)))
 
 build-requires : tie.Need-build-requires
 build-requires c κs =

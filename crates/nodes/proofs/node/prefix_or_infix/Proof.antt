@@ -1,4 +1,4 @@
--- The test settles which of the two it is, and so which role it has.
+-- The test settles which of the two it is.
 use Prim.Native.Nat.{_+_}
 use mathlib.Core.Path.{_≡_}
 use native.Mathlib.Omega.{arith}
@@ -7,51 +7,35 @@ use Rattle.nodes.proofs.Parts.{prefix-words, infix-words}
 use Rattle.nodes.proofs.node.prefix_or_infix.Statement.{statement}
 use Rattle.nodes.proofs.node.prefix_or_infix.Tie as tie
 
-prefix-requires : tie.Need-prefix-requires
-prefix-requires c κs = search needs
-
 unary-requires : tie.Need-unary-requires
-unary-requires c κs =
-    let p = c .before .before .before .before .before .before .pre in
-    (p .0, rw (c .before .prefix .ensures) (p .2), omega arith, omega arith)
+unary-requires c κs = search needs
 
 same-length : tie.Need-same-length
 same-length c = search needs
 
 returns : tie.Need-returns
 returns c =
-    let t = c .before .before .before .before .before in
-    let a = t .before .before .before .before .args in
+    let a = c .before .before .before .before .before .before .before .args in
+    let none = c .before .before .before .before .if1 .taken in
     let e : a .l + a .r ≡ a .r = omega arith in
-    rw (prefix-words (a .base) (a .l) (a .l + a .r) (a .tokens .now) (a .roles .now) (a .i) (t .if1 .taken), e)
-    (rw (c .before .before .before .before .prefix .ensures) at (c .before .before .unary .ensures))
+    rw (prefix-words (a .base) (a .l) (a .l + a .r) (a .tokens .now) (a .i) _ none, e) (c .before .before .unary .ensures)
 
 infix-requires : tie.Need-infix-requires
 infix-requires c κs = search needs
-
-infix-requires-2 : tie.Need-infix-requires-2
-infix-requires-2 c κs =
-    let p = c .before .before .before .before .before .before .pre in
-    (p .0, rw (c .before .«infix» .ensures) (p .3), omega arith, omega arith, p .6)
 
 same-length-2 : tie.Need-same-length-2
 same-length-2 c = search needs
 
 returns-2 : tie.Need-returns-2
-returns-2 c =
-    let e = c .before .before .before .before .before in
-    rw (infix-words _ _ _ _ _ _ (e .if1 .left))
-    (rw (c .before .before .before .before .«infix» .ensures) at (c .before .before .infix2 .ensures))
+returns-2 c = rw (infix-words _ _ _ _ _ _ (c .before .before .before .before .if1 .left)) (c .before .before .«infix» .ensures)
 
 pub prefix-or-infix-spec : {M : Type 1} → statement M
 prefix-or-infix-spec =
     tie.close
     (tie.spec
-    prefix-requires
     unary-requires
     same-length
     returns
     infix-requires
-    infix-requires-2
     same-length-2
     returns-2)
