@@ -1,5 +1,5 @@
 // The builder calls itself on the tokens left and right of the root; each operand's nodes go into a lent part of the node table behind those
-// of its left sibling. It calls itself at two places only: each costs stack in every frame.
+// of its left sibling. It calls itself at two places only, and keeps no role across a call: each costs stack in every frame.
 use crate::node;
 use rows::in_use;
 use rows::kinds;
@@ -110,17 +110,17 @@ pub fn build(
         return node::block(tokens, at, opener(tokens, at), base, l, nodes);
     }
     let right = roots_row::right(roots, at);
-    let role = in_use::role_beside(roles, at, l, right);
     if right == 0 {
         if l == 0 {
             return node::leaf(tokens, at, nodes);
         }
+        let role = in_use::role_beside(roles, at, l, right);
         return node::unary(tokens, at, node::POSTFIX, role, base, l, nodes);
     }
     let after = l * node::WORDS;
     if is_leaf(tokens, roots, right - 1) {
         let r = node::leaf(tokens, right - 1, &mut nodes[after..]);
-        return node::prefix_or_infix(tokens, at, role, base, l, r, nodes);
+        return node::prefix_or_infix(tokens, roles, at, base, l, r, nodes);
     }
     let r = build(
         tokens,
@@ -132,5 +132,5 @@ pub fn build(
         &mut nodes[after..],
         base + l,
     );
-    node::prefix_or_infix(tokens, at, role, base, l, r, nodes)
+    node::prefix_or_infix(tokens, roles, at, base, l, r, nodes)
 }

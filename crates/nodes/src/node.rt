@@ -1,4 +1,5 @@
 // The words of one node: kind, first child, second child, offset, length, precedence.
+use rows::in_use;
 use rows::kinds;
 use rows::role;
 use rows::tokens as row;
@@ -8,6 +9,7 @@ ghost use lib.Seq.{sets};
 ghost use Rattle.grammar.specs.Nodes.{nodeWords, wordsPerNode, infixKind, bracketKind};
 ghost use Rattle.rows.specs.Fields.{Within, start};
 ghost use Rattle.rows.specs.Codes.{IsRole};
+ghost use Rattle.rows.specs.InUse.{roleBeside};
 ghost use Rattle.nodes.specs.Node.{precedenceOf, tokenWords, atomWords, blockWords, prefixOrInfixWords, HasNode, IsWord, EndsInChild, Appended};
 
 pub const WORDS: usize = 6;
@@ -122,20 +124,22 @@ pub fn unary(
     n + 1
 }
 
-// The node of an operator in the role, behind the `l` nodes of its left operand, 0 if it has none, and the `r` nodes of its right one.
+// The node of an operator behind the `l` nodes of its left operand, 0 if it has none, and the `r` nodes of its right one.
 pub fn prefix_or_infix(
     tokens: &[u16],
+    roles: &[u16],
     i: usize,
-    role: u16,
     base: usize,
     l: usize,
     r: usize,
     nodes: &mut [u32],
 ) -> usize
-    requires { ⌜ Within 4 (now tokens) i × IsRole role × (1 ≤ r) × (base + (l + r) ≤ 4096) × HasNode (now nodes) (l + r) ⌝ }
-    ensures { λ a. ⌜ Appended (prefixOrInfixWords base l (l + r) (now (tokens .entry)) i (precedenceOf role))
+    requires { ⌜ Within 4 (now tokens) i × Within 4 (now roles) i × IsRole (roleBeside (now roles) i l r)
+        × (1 ≤ r) × (base + (l + r) ≤ 4096) × HasNode (now nodes) (l + r) ⌝ }
+    ensures { λ a. ⌜ Appended (prefixOrInfixWords base l (l + r) (now (tokens .entry)) i (precedenceOf (roleBeside (now (roles .entry)) i l r)))
         (now (nodes .entry)) (l + r) (now (nodes .exit)) a ⌝ }
 {
+    let role = in_use::role_beside(roles, i, l, r);
     if l == 0 {
         return unary(tokens, i, PREFIX, role, base, r, nodes);
     }

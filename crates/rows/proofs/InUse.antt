@@ -1,6 +1,6 @@
 -- The number of an operator's role by the operands that it has, case by case. Where the row of roles has the roles in force, it is that
 -- of the role in which the operator stands over its operands.
-use mathlib.Core.Path.{_≡_, refl, _∙_}
+use mathlib.Core.Path.{_≡_, refl, sym, _∙_}
 use mathlib.Core.Bool.{Bool, true, false, not}
 use mathlib.Core.List.{List}
 use Prim.Native.Nat.{ℕ, suc, _+_}
@@ -35,6 +35,14 @@ module _ (R : List ℕ) (i l r : ℕ) where
   pub beside-infix : (l ≡ 0 → ⊥) → (r ≡ 0 → ⊥) → roleBeside R i l r ≡ infixed R i
   unfolding roleBeside
   beside-infix e f = rw (ne-eqb l 0 e, ne-eqb r 0 f, roleBeside)
+
+-- It does not matter by what number an operand on the right is told from none.
+pub beside-right : (R : List ℕ) (i l r s : ℕ) → (r ≡ 0 → ⊥) → (s ≡ 0 → ⊥) → roleBeside R i l r ≡ roleBeside R i l s
+beside-right R i l r s e f = go (eqb l 0) refl
+  where
+    go : (b : Bool) → eqb l 0 ≡ b → roleBeside R i l r ≡ roleBeside R i l s
+    go true p = let none = eqb-true l 0 p in beside-prefix R i l r none e ∙ sym (beside-prefix R i l s none f)
+    go false p = let some = eqb-false l 0 p in beside-infix R i l r some e ∙ sym (beside-infix R i l s some f)
 
 module _ (R O : List ℕ) (i : ℕ) where
   pub use-none : arrival R i ≡ 0 → roleInUse R O i ≡ 0

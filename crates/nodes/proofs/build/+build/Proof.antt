@@ -14,6 +14,7 @@ use Rattle.grammar.specs.Nodes.{postfixKind, wordsPerNode}
 use Rattle.rows.specs.Fields.{kind, right, Within}
 use Rattle.rows.specs.InUse.{roleBeside}
 use Rattle.rows.specs.Codes.{IsRole}
+use Rattle.rows.proofs.InUse.{beside-right}
 use Rattle.nodes.specs.Node.{precedenceOf, tokenWords, blockWords, prefixOrInfixWords, HasNode, EndsInChild, Appended}
 use Rattle.nodes.specs.First.{firstPart}
 use Rattle.nodes.specs.Building.{rows, Buildable, Built}
@@ -99,10 +100,10 @@ calls t = (
   block-reads.Learnt,
   right-reads.Asked,
   right-reads.Learnt,
-  role-beside-reads.Asked,
-  role-beside-reads.Learnt,
   leaf-reads.Asked,
   leaf-reads.Learnt,
+  role-beside-reads.Asked,
+  role-beside-reads.Learnt,
   unary-reads.Asked,
   unary-reads.Learnt,
   is-leaf-reads.Asked,
@@ -112,8 +113,8 @@ calls t = (
 )
 
 module _ (t : ℕ) where
-  -- The places of the code: its beginning, the first part known, where the ways meet, a bracket pair or a block, neither, the role known,
-  -- nothing on the right, an operand on the right.
+  -- The places of the code: its beginning, the first part known, where the ways meet, a bracket pair or a block, neither, nothing on the
+  -- right, an operand on the right.
   abbrev Entry : Type 0
   Entry = build-lts.Start (calls t) (build-at t) build.Post
 
@@ -129,9 +130,6 @@ module _ (t : ℕ) where
   abbrev NoSpan : Type 0
   NoSpan = build-lts.Else1 (calls t) (build-at t) build.Post
 
-  abbrev Known : Type 0
-  Known = build-lts.After-role-beside (calls t) (build-at t) build.Post
-
   abbrev NoRight : Type 0
   NoRight = build-lts.Then3 (calls t) (build-at t) build.Post
 
@@ -145,14 +143,11 @@ module _ (t : ℕ) where
   abbrev from-met : Met → Entry
   from-met c = from-first (c .before)
 
-  abbrev known-met : Known → Met
-  known-met c = c .before .before .before
-
   abbrev no-right-met : NoRight → Met
-  no-right-met c = c .before .before .before .before
+  no-right-met c = c .before .before .before
 
   abbrev right-met : Right → Met
-  right-met c = c .before .before .before .before
+  right-met c = c .before .before .before
 
   -- What is asked of the whole part, and what is to be left of it.
   abbrev asked : (c : Met)
@@ -262,27 +257,15 @@ module _ (t : ℕ) where
   is-atom c = omega (arith, c .if1 .left, c .before .before .before .kind .ensures)
 
   no-right : (c : NoRight) → let a = from-met (no-right-met c) .args in right (a .roots .now) (a .at) ≡ 0
-  no-right c = omega (arith, c .if3 .taken, c .before .before .right .ensures)
+  no-right c = omega (arith, c .if3 .taken, c .before .right .ensures)
 
   left-children : (c : NoRight) (n : ℕ) → let j = no-right-met c .match in n ≡ j .l → ChildrenAt (no-right-met c) (j .nodes) n
   left-children c n e =
       let m = no-right-met c in
-      children-one (asked m) (first-here m) (second-absent _ _ _ (is-atom (c .before .before .before)) _ (no-right c)) e
+      children-one (asked m) (first-here m) (second-absent _ _ _ (is-atom (c .before .before)) _ (no-right c)) e
 
   build-right-requires : build-lts.Need-right-requires (calls t) (build-at t) build.Post
   build-right-requires c κs = root-root (asked (c .before))
-
-  build-role-beside-requires : build-lts.Need-role-beside-requires (calls t) (build-at t) build.Post
-  build-role-beside-requires c κs = root-role (asked (c .before .before))
-
-  -- The role by the operands that there are: it has a number.
-  role-here : (c : Known)
-      → let a = from-met (known-met c) .args in
-      c .role-beside .result ≡ lastRole (rows (a .tokens .now) (a .roles .now) (a .roots .now)) (a .at) (known-met c .match .l)
-  role-here c = c .role-beside .ensures ∙ ap (roleBeside _ _ _) (c .before .right .ensures)
-
-  role-coded : (c : Known) → IsRole (c .role-beside .result)
-  role-coded c = let m = known-met c in rw (role-here c) (last-coded (asked m) (first-here m) (is-atom (c .before .before)))
 
   build-leaf-requires : build-lts.Need-leaf-requires (calls t) (build-at t) build.Post
   build-leaf-requires c κs =
@@ -297,34 +280,47 @@ module _ (t : ℕ) where
       let m = no-right-met q in
       let e = p .if4 .taken in
       done (asked m) (left-children q _ (sym e)) _ (first-here m) (c .before .before .leaf .ensures)
-      (sym (last-atom _ _ (is-atom (q .before .before .before)) (no-right q) _ _ _ e))
+      (sym (last-atom _ _ (is-atom (q .before .before)) (no-right q) _ _ _ e))
 
   build-same-length-3 : build-lts.Need-same-length-3 (calls t) (build-at t) build.Post
   build-same-length-3 c =
       let q = c .before .before .before .before .before in
       built-length (asked (no-right-met q)) (build-returns-3 c)
 
+  -- Its role by its operands has a number.
+  build-role-beside-requires : build-lts.Need-role-beside-requires (calls t) (build-at t) build.Post
+  build-role-beside-requires c κs = root-role (asked (no-right-met (c .before)))
+
+  postfix-role : (c : build-lts.After-role-beside (calls t) (build-at t) build.Post)
+      → let m = no-right-met (c .before .before) in
+      let a = from-met m .args in
+      c .role-beside .result ≡ lastRole (rows (a .tokens .now) (a .roles .now) (a .roots .now)) (a .at) (m .match .l)
+  postfix-role c = c .role-beside .ensures ∙ ap (roleBeside _ _ _) (c .before .before .before .right .ensures)
+
   build-unary-requires : build-lts.Need-unary-requires (calls t) (build-at t) build.Post
   build-unary-requires c κs =
-      let p = c .before in
+      let p = c .before .before in
       let q = p .before in
-      let h = asked (no-right-met q) in
+      let m = no-right-met q in
+      let h = asked m in
       let r = last-room h (left-children q _ refl) in
-      (root-token h, role-coded (q .before), omega (arith, p .if4 .left, r .0), r .1)
+      let coded = last-coded h (first-here m) (is-atom (q .before .before)) in
+      (root-token h, rw (postfix-role (c .before)) coded, omega (arith, p .if4 .left, r .0), r .1)
 
   build-returns-4 : build-lts.Need-returns-4 (calls t) (build-at t) build.Post
   build-returns-4 c =
-      let p = c .before .before .before .before in
+      let f = c .before .before .before .before in
+      let p = f .before in
       let q = p .before in
       let m = no-right-met q in
       let a = from-met m .args in
       let w : ℕ → List ℕ = λ x. tokenWords postfixKind (a .base + m .match .l - 1) 0 (a .tokens .now) (a .at) (precedenceOf x) in
-      done (asked m) (left-children q _ refl) (w (q .before .role-beside .result)) (first-here m) (c .before .before .unary .ensures)
-      (ap w (role-here (q .before)) ∙ sym (last-postfix _ _ (is-atom (q .before .before .before)) (no-right q) _ _ _ (p .if4 .left)))
+      done (asked m) (left-children q _ refl) (w (f .role-beside .result)) (first-here m) (c .before .before .unary .ensures)
+      (ap w (postfix-role f) ∙ sym (last-postfix _ _ (is-atom (q .before .before)) (no-right q) _ _ _ (p .if4 .left)))
 
   build-same-length-4 : build-lts.Need-same-length-4 (calls t) (build-at t) build.Post
   build-same-length-4 c =
-      let q = c .before .before .before .before .before in
+      let q = c .before .before .before .before .before .before in
       built-length (asked (no-right-met q)) (build-returns-4 c)
 
   -- An operand on its right: it is asked for in the lent part behind the nodes of the left one.
@@ -339,14 +335,14 @@ module _ (t : ℕ) where
 
   second-here : (c : Right)
       → let a = from-met (right-met c) .args in
-      secondPart (a .tokens .now) (a .roots .now) (a .at) (a .to) ≡ Of (a .at + 1) (c .before .before .right .result - 1) (a .to)
-  second-here c = second-some _ _ _ (is-atom (c .before .before .before)) _ (c .before .before .right .ensures) (c .if3 .left)
+      secondPart (a .tokens .now) (a .roots .now) (a .at) (a .to) ≡ Of (a .at + 1) (c .before .right .result - 1) (a .to)
+  second-here c = second-some _ _ _ (is-atom (c .before .before)) _ (c .before .right .ensures) (c .if3 .left)
 
   right-asks : (c : Right)
       → let m = right-met c in
       let a = from-met m .args in
       (a .to - (a .at + 1) < a .to - a .from)
-      × Buildable (rows (a .tokens .now) (a .roles .now) (a .roots .now)) (a .at + 1) (c .before .before .right .result - 1) (a .to) (lent m) (a .base + m .match .l)
+      × Buildable (rows (a .tokens .now) (a .roles .now) (a .roots .now)) (a .at + 1) (c .before .right .result - 1) (a .to) (lent m) (a .base + m .match .l)
   right-asks c = let m = right-met c in second-asks (asked m) (first-here m) (second-here c)
 
   -- It is built: both operands are all but the last node.
@@ -354,36 +350,47 @@ module _ (t : ℕ) where
   RightBuilt c M r =
       let m = right-met c in
       let a = from-met m .args in
-      Built (rows (a .tokens .now) (a .roles .now) (a .roots .now)) (a .at + 1) (c .before .before .right .result - 1) (a .to) (lent m) (a .base + m .match .l) M r
+      Built (rows (a .tokens .now) (a .roles .now) (a .roots .now)) (a .at + 1) (c .before .right .result - 1) (a .to) (lent m) (a .base + m .match .l) M r
 
   both-children : (c : Right) (M : List ℕ) (r : ℕ) → RightBuilt c M r
       → let m = right-met c in ChildrenAt m (back m M) (m .match .l + r)
   both-children c M r v = let m = right-met c in children-two (asked m) (first-here m) (second-here c) v
 
+  -- The role by its operands.
+  role-here : (c : Right) (M : List ℕ) (r : ℕ) → RightBuilt c M r
+      → let m = right-met c in
+      let a = from-met m .args in
+      roleBeside (a .roles .now) (a .at) (m .match .l) r ≡ lastRole (rows (a .tokens .now) (a .roles .now) (a .roots .now)) (a .at) (m .match .l)
+  role-here c M r v =
+      beside-right _ _ _ r _ (λ e. omega (arith, built-counts (right-asks c .1) v)) (λ e. c .if3 .left (c .before .right .ensures ∙ e))
+
   both-ends : (c : Right) (M : List ℕ) (r : ℕ) → RightBuilt c M r
       → let m = right-met c in
       let a = from-met m .args in
       let n = m .match .l + r in
-      Within 4 (a .tokens .now) (a .at) × IsRole (c .before .role-beside .result) × (1 ≤ r) × (a .base + n ≤ 4096) × HasNode (back m M) n
+      Within 4 (a .tokens .now) (a .at) × Within 4 (a .roles .now) (a .at) × IsRole (roleBeside (a .roles .now) (a .at) (m .match .l) r)
+      × (1 ≤ r) × (a .base + n ≤ 4096) × HasNode (back m M) n
   both-ends c M r v =
-      let h = asked (right-met c) in
+      let m = right-met c in
+      let h = asked m in
       let e = last-room h (both-children c M r v) in
-      (root-token h, role-coded (c .before), built-counts (right-asks c .1) v, e .0, e .1)
+      let coded = last-coded h (first-here m) (is-atom (c .before .before)) in
+      (root-token h, root-role h, rw (role-here c M r v) coded, built-counts (right-asks c .1) v, e .0, e .1)
 
   both-done : (c : Right) (M : List ℕ) (r : ℕ) → RightBuilt c M r
       → let m = right-met c in
       let a = from-met m .args in
       let j = m .match in
-      (N : List ℕ) (n : ℕ) → Appended (prefixOrInfixWords (a .base) (j .l) (j .l + r) (a .tokens .now) (a .at) (precedenceOf (c .before .role-beside .result))) (back m M) (j .l + r) N n
+      (N : List ℕ) (n : ℕ) → Appended (prefixOrInfixWords (a .base) (j .l) (j .l + r) (a .tokens .now) (a .at) (precedenceOf (roleBeside (a .roles .now) (a .at) (j .l) r))) (back m M) (j .l + r) N n
       → BuiltAt m N n
   both-done c M r v N n w =
       let m = right-met c in
       let a = from-met m .args in
       let j = m .match in
       let u : ℕ → List ℕ = λ x. prefixOrInfixWords (a .base) (j .l) (j .l + r) (a .tokens .now) (a .at) (precedenceOf x) in
-      done (asked m) (both-children c M r v) (u (c .before .role-beside .result)) (first-here m) w
-      (ap u (role-here (c .before))
-      ∙ sym (last-right _ _ (is-atom (c .before .before .before)) (λ e. c .if3 .left (c .before .before .right .ensures ∙ e)) _ _ _))
+      done (asked m) (both-children c M r v) (u (roleBeside (a .roles .now) (a .at) (j .l) r)) (first-here m) w
+      (ap u (role-here c M r v)
+      ∙ sym (last-right _ _ (is-atom (c .before .before)) (λ e. c .if3 .left (c .before .right .ensures ∙ e)) _ _ _))
 
   build-mul-after : build-lts.Need-mul-after (calls t) (build-at t) build.Post
   build-mul-after c = omega (arith, lent-here (c .before))
@@ -500,10 +507,10 @@ pub +build-spec : {M : Type 1} → statement M
     (build-same-length-2 t)
     (build-returns-2 t)
     (build-right-requires t)
-    (build-role-beside-requires t)
     (build-leaf-requires t)
     (build-same-length-3 t)
     (build-returns-3 t)
+    (build-role-beside-requires t)
     (build-unary-requires t)
     (build-same-length-4 t)
     (build-returns-4 t)
