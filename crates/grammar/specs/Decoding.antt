@@ -142,7 +142,7 @@ pub data Ordered (ws : List ℕ) (k : ℕ) : Type 0 where
   blockNode : nodeKind ws k ≡ blockKind → firstChild ws k < k → secondChild ws k ≡ 0 → Ordered ws k
 
 -- "so the words of a subtree stand together in the node table": the words of the tree that node `k` decodes to are those of the nodes that
--- end with `k`, under the operators in force in it.
+-- end with `k`. With which offsets and operators is left open here: `TableHolds` of reader says it of the whole tree.
 pub record Together (text : Bytes) (ws : List ℕ) (k : ℕ) : Type 0 where
   pub tree : Tree
   pub decodes : decode text ws k ≡ some tree
