@@ -11,8 +11,9 @@ use Rattle.grammar.proofs.Logic.{and-left, and-right}
 use Rattle.rows.specs.Fields.{kind, left, right}
 use Rattle.nodes.specs.Node.{tokenWords, atomKind, atomWords, standsAlone, Appended}
 
-pub put-words : (N : List ℕ) (n k : ℕ) {N′ : List ℕ} {a b o s p a′ b′ o′ s′ p′ : ℕ} → N′ ≡ sets N n (nodeWords k a b o s p) → a ≡ a′ → b ≡ b′ → o ≡ o′ → s ≡ s′
-    → p ≡ p′ → N′ ≡ sets N n (nodeWords k a′ b′ o′ s′ p′)
+pub put-words :
+    (N : List ℕ) (n k : ℕ) {N′ : List ℕ} {a b o s p a′ b′ o′ s′ p′ : ℕ} → N′ ≡ sets N n (nodeWords k a b o s p)
+    → a ≡ a′ → b ≡ b′ → o ≡ o′ → s ≡ s′ → p ≡ p′ → N′ ≡ sets N n (nodeWords k a′ b′ o′ s′ p′)
 put-words N n k h e f g i j = rw (e, f, g, i, j) at h
 
 pub atom-appended : (K N N′ : List ℕ) (i k : ℕ) → N′ ≡ sets N 0 (tokenWords k 0 0 K i 0) → k ≡ atomKind (kind K i)

@@ -381,7 +381,9 @@ module _ (t : ℕ) where
       → let m = right-met c in
       let a = from-met m .args in
       let j = m .match in
-      (N : List ℕ) (n : ℕ) → Appended (prefixOrInfixWords (a .base) (j .l) (j .l + r) (a .tokens .now) (a .at) (precedenceOf (roleBeside (a .roles .now) (a .at) (j .l) r))) (back m M) (j .l + r) N n
+      let precedence = precedenceOf (roleBeside (a .roles .now) (a .at) (j .l) r) in
+      (N : List ℕ) (n : ℕ)
+      → Appended (prefixOrInfixWords (a .base) (j .l) (j .l + r) (a .tokens .now) (a .at) precedence) (back m M) (j .l + r) N n
       → BuiltAt m N n
   both-done c M r v N n w =
       let m = right-met c in
