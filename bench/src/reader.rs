@@ -1,6 +1,6 @@
 //! The reader of document 01, with document 02's reserved operators, blank
-//! rules and precedences of nodes: a text in, a node table or canonical text
-//! out.
+//! rules, precedences of nodes and wider overloading rule: a text in, a node
+//! table or canonical text out.
 //!
 //! Four linear passes: tokens (checks 1 to 5), nesting (6, 7), operators in
 //! force (8, 17, 9, 10), trees (11). Nothing is written before check 12, or 13
@@ -133,7 +133,7 @@ fn words(tokens: &[Token], node: Node, number: u32) -> [u32; NODE_WORDS] {
     let start = u32::from(token.start);
     let len = u32::from(token.len);
     let last = number.wrapping_sub(1);
-    let precedence = precedence(token);
+    let precedence = node.role(tokens).map_or(0, |role| u32::from(role.precedence));
     match node.kind {
         NodeKind::Name if matches!(token.kind, Kind::Quoted { .. }) => [1, 0, 0, start + 1, len - 2, 0],
         NodeKind::Name => [1, 0, 0, start, len, 0],
@@ -147,15 +147,5 @@ fn words(tokens: &[Token], node: Node, number: u32) -> [u32; NODE_WORDS] {
             let end = u32::from(tokens[body as usize].start) + 2;
             [7, last, 0, start, end - start, 0]
         }
-    }
-}
-
-/// The precedence of an operator where it stands, 0 of any other token. All
-/// its roles in force there have this one, so the role in use does.
-#[inline(always)]
-fn precedence(token: Token) -> u32 {
-    match token.kind {
-        Kind::Operator { precedence, .. } => u32::from(precedence),
-        _ => 0,
     }
 }

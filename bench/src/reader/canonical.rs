@@ -5,7 +5,7 @@
 //! the same order.
 
 use super::list::List;
-use super::role::{Associativity, Infix, Left, Postfix, Prefix, Right};
+use super::role::{Left, Right, Role};
 use super::token::{Kind, Token};
 use super::tree::{Node, NodeKind};
 use super::{MAX_BYTES, MAX_TOKENS, Reject};
@@ -70,7 +70,7 @@ fn place_brackets(tokens: &[Token], tree: &[Node], brackets: &mut List<Brackets,
             NodeKind::Bracket => subtrees[number - 1],
             NodeKind::Block => Operand::leaf(node.token, end_of_block(tokens, node.token)),
             NodeKind::Prefix | NodeKind::Infix | NodeKind::Postfix => {
-                let (precedence, associativity) = role(tokens, node);
+                let Some(Role { precedence, associativity }) = node.role(tokens) else { unreachable!() };
                 let mut first = node.token;
                 let mut last = node.token;
                 if node.kind != NodeKind::Prefix {
@@ -101,18 +101,6 @@ fn end_of_block(tokens: &[Token], opener: u16) -> u16 {
     let Kind::Let { body } = tokens[opener as usize].kind else { unreachable!() };
     let Kind::In { end } = tokens[body as usize].kind else { unreachable!() };
     end
-}
-
-/// Precedence and associativity of an operator's node.
-fn role(tokens: &[Token], node: &Node) -> (u16, Associativity) {
-    let Kind::Operator { precedence, roles } = tokens[node.token as usize].kind else { unreachable!() };
-    let fixity = match node.kind {
-        NodeKind::Prefix => Prefix,
-        NodeKind::Infix => Infix,
-        _ => Postfix,
-    };
-    let Some(associativity) = roles.get(fixity) else { unreachable!() };
-    (precedence, associativity)
 }
 
 /// The tokens of the canonical text in order.

@@ -1,7 +1,7 @@
 //! Operators in force: declarations, and which tokens are operators. Checks 8,
 //! 17, 9 and 10, in this order.
 
-use super::role::{Infix, Left, Non, Postfix, Prefix, Right};
+use super::role::{Infix, Left, Non, Postfix, Prefix, Right, Role};
 use super::table::Table;
 use super::token::{Kind, Token};
 use super::{MAX_OPERATORS, MAX_PRECEDENCE, Reject};
@@ -15,8 +15,7 @@ pub fn resolve(text: &[u8], tokens: &mut [Token]) -> Result<(), Reject> {
         match tokens[at].kind {
             Kind::Word | Kind::Sign => {
                 if let Some(operator) = table.operator(&tokens[at]) {
-                    let (precedence, roles) = (operator.precedence(), operator.roles);
-                    tokens[at].kind = Kind::Operator { precedence, roles };
+                    tokens[at].kind = Kind::Operator(operator);
                 }
             }
             Kind::Quoted { .. } => {
@@ -45,7 +44,7 @@ fn declarations(text: &[u8], tokens: &[Token], table: &mut Table) -> Result<(), 
     while walk.at < body {
         declaration(&mut walk, table)?;
     }
-    if table.is_consistent() { Ok(()) } else { Err(Reject::new(10, tokens[body].start as usize)) }
+    if table.is_permitted() { Ok(()) } else { Err(Reject::new(10, tokens[body].start as usize)) }
 }
 
 fn declaration(walk: &mut Walk, table: &mut Table) -> Result<(), Reject> {
@@ -69,7 +68,7 @@ fn declaration(walk: &mut Walk, table: &mut Table) -> Result<(), Reject> {
     let text = walk.text;
     let precedence = walk.next(|number| precedence(text, number))?;
     let token = walk.operator()?;
-    table.declare(&token, fixity, associativity, precedence);
+    table.declare(&token, fixity, Role { precedence, associativity });
     if table.in_force() > MAX_OPERATORS {
         return Err(Reject::new(9, token.start as usize));
     }

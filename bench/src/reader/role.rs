@@ -1,4 +1,4 @@
-//! Roles of an operator and the overloading rules.
+//! Roles of an operator and the overloading rule.
 
 #[derive(Clone, Copy, Debug, PartialEq, Eq)]
 #[repr(u8)]
@@ -19,68 +19,60 @@ pub enum Associativity {
 pub use Associativity::{Left, Non, Right};
 pub use Fixity::{Infix, Postfix, Prefix};
 
-/// The associativity for each fixity that is in force, two bits each.
 #[derive(Clone, Copy, Debug, PartialEq, Eq)]
-pub struct Roles(u8);
-
-impl Roles {
-    const NONE: Roles = Roles(0);
-
-    #[inline(always)]
-    pub const fn get(self, fixity: Fixity) -> Option<Associativity> {
-        match self.0 >> (2 * fixity as u8) & 3 {
-            0 => None,
-            1 => Some(Non),
-            2 => Some(Left),
-            _ => Some(Right),
-        }
-    }
-
-    const fn with(self, fixity: Fixity, associativity: Associativity) -> Self {
-        let shift = 2 * fixity as u8;
-        Roles(self.0 & !(3 << shift) | (associativity as u8) << shift)
-    }
+pub struct Role {
+    pub precedence: u16,
+    pub associativity: Associativity,
 }
 
-/// An operator's roles and the precedence of each, 0 where there is none.
-#[derive(Clone, Copy)]
-pub struct Operator {
-    pub roles: Roles,
-    precedences: [u16; 3],
-}
+/// The role for each fixity that is in force: the precedence in the lower bits,
+/// the associativity above them, 0 where there is none.
+#[derive(Clone, Copy, Debug, PartialEq, Eq)]
+pub struct Operator([u16; 3]);
+
+const SHIFT: u32 = 12;
 
 impl Operator {
-    pub const PLAIN: Operator = Operator { roles: Roles::NONE, precedences: [0; 3] };
+    pub const PLAIN: Operator = Operator([0; 3]);
 
-    pub const fn with(mut self, fixity: Fixity, associativity: Associativity, precedence: u16) -> Self {
-        self.roles = self.roles.with(fixity, associativity);
-        self.precedences[fixity as usize] = precedence;
+    #[inline(always)]
+    pub const fn get(self, fixity: Fixity) -> Option<Role> {
+        let word = self.0[fixity as usize];
+        let associativity = match word >> SHIFT {
+            0 => return None,
+            1 => Non,
+            2 => Left,
+            _ => Right,
+        };
+        Some(Role { precedence: word & ((1 << SHIFT) - 1), associativity })
+    }
+
+    pub const fn with(mut self, fixity: Fixity, role: Role) -> Self {
+        self.0[fixity as usize] = (role.associativity as u16) << SHIFT | role.precedence;
         self
     }
 
     #[inline(always)]
-    pub fn has_role(&self) -> bool {
-        self.roles != Roles::NONE
+    pub fn has_role(self) -> bool {
+        self != Operator::PLAIN
     }
 
-    /// The common precedence, once `is_consistent`.
     #[inline(always)]
-    pub fn precedence(&self) -> u16 {
-        let [prefix, infix, postfix] = self.precedences;
-        prefix | infix | postfix
+    pub fn is_infix_and_postfix(self) -> bool {
+        self.get(Infix).is_some() && self.get(Postfix).is_some()
     }
 
-    /// The overloading rules.
-    pub fn is_consistent(&self) -> bool {
-        let common = self.precedence();
-        let prefix = self.roles.get(Prefix);
-        let postfix = self.roles.get(Postfix);
-        self.precedences.iter().all(|&p| p == 0 || p == common)
-            && match self.roles.get(Infix) {
+    /// The four conditions. They are asked of every operator in force where
+    /// one of them is both infix and postfix.
+    pub fn meets_conditions(self) -> bool {
+        let roles = || [Prefix, Infix, Postfix].into_iter().filter_map(|fixity| self.get(fixity));
+        let only = |fixity, wanted| self.get(fixity).is_none_or(|role| role.associativity == wanted);
+        roles().all(|role| roles().all(|other| other.precedence == role.precedence))
+            && match self.get(Infix).map(|role| role.associativity) {
                 None => true,
-                Some(Non) => matches!(prefix, None | Some(Non)) && matches!(postfix, None | Some(Non)),
-                Some(Left) => matches!(prefix, None | Some(Non)) && matches!(postfix, None | Some(Left)),
-                Some(Right) => matches!(prefix, None | Some(Right)) && postfix.is_none(),
+                Some(Non) => only(Prefix, Non) && only(Postfix, Non),
+                Some(Left) => only(Prefix, Non) && only(Postfix, Left),
+                Some(Right) => only(Prefix, Right) && self.get(Postfix).is_none(),
             }
     }
 }

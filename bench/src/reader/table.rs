@@ -2,7 +2,7 @@
 
 use super::MAX_DEPTH;
 use super::list::List;
-use super::role::{Associativity, Fixity, Infix, Left, Non, Operator, Prefix, Right};
+use super::role::{Associativity, Fixity, Infix, Left, Non, Operator, Prefix, Right, Role};
 use super::token::{Token, pack};
 
 /// A word or sign that is an operator here or was made plain. The entries of
@@ -16,15 +16,19 @@ struct Entry {
     operator: Operator,
 }
 
+const fn role(associativity: Associativity, precedence: u16) -> Role {
+    Role { precedence, associativity }
+}
+
 const START: [(&[u8], Operator); 8] = [
-    (b"or", Operator::PLAIN.with(Infix, Left, 800)),
-    (b"and", Operator::PLAIN.with(Infix, Left, 700)),
-    (b"not", Operator::PLAIN.with(Prefix, Right, 600)),
-    (b"=", Operator::PLAIN.with(Infix, Non, 500)),
-    (b"<", Operator::PLAIN.with(Infix, Non, 500)),
-    (b"+", Operator::PLAIN.with(Infix, Left, 400)),
-    (b"-", Operator::PLAIN.with(Infix, Left, 400).with(Prefix, Non, 400)),
-    (b"*", Operator::PLAIN.with(Infix, Left, 300)),
+    (b"or", Operator::PLAIN.with(Infix, role(Left, 800))),
+    (b"and", Operator::PLAIN.with(Infix, role(Left, 700))),
+    (b"not", Operator::PLAIN.with(Prefix, role(Right, 600))),
+    (b"=", Operator::PLAIN.with(Infix, role(Non, 500))),
+    (b"<", Operator::PLAIN.with(Infix, role(Non, 500))),
+    (b"+", Operator::PLAIN.with(Infix, role(Left, 400))),
+    (b"-", Operator::PLAIN.with(Infix, role(Left, 400)).with(Prefix, role(Non, 400))),
+    (b"*", Operator::PLAIN.with(Infix, role(Left, 300))),
 ];
 
 /// A declaration has at least three tokens and a new entry takes five.
@@ -69,12 +73,31 @@ struct Change {
     former: Operator,
 }
 
+/// How many operators are in force, how many of them are both infix and
+/// postfix, and how many do not meet the four conditions.
+#[derive(Clone, Copy)]
+struct Counts {
+    in_force: u8,
+    infix_and_postfix: u8,
+    without_conditions: u8,
+}
+
+impl Counts {
+    fn of(operator: Operator) -> Self {
+        Counts {
+            in_force: operator.has_role().into(),
+            infix_and_postfix: operator.is_infix_and_postfix().into(),
+            without_conditions: (!operator.meets_conditions()).into(),
+        }
+    }
+}
+
 /// The table's state at a block's `let`.
 #[derive(Clone, Copy)]
 struct Block {
     entries: u8,
     changes: u16,
-    in_force: u8,
+    counts: Counts,
 }
 
 pub struct Table<'t> {
@@ -83,7 +106,7 @@ pub struct Table<'t> {
     entries: List<Entry, MAX_ENTRIES>,
     changes: List<Change, MAX_CHANGES>,
     blocks: List<Block, MAX_DEPTH>,
-    in_force: u8,
+    counts: Counts,
 }
 
 impl<'t> Table<'t> {
@@ -96,7 +119,7 @@ impl<'t> Table<'t> {
             entries: List::new(),
             changes: List::new(),
             blocks: List::new(),
-            in_force: START.len() as u8,
+            counts: Counts { in_force: START.len() as u8, infix_and_postfix: 0, without_conditions: 0 },
         };
         START_ENTRIES.into_iter().for_each(|entry| table.entries.push(entry));
         table
@@ -104,7 +127,7 @@ impl<'t> Table<'t> {
 
     /// The number of operators in force.
     pub fn in_force(&self) -> usize {
-        self.in_force as usize
+        self.counts.in_force as usize
     }
 
     /// The operator in force that a word or sign is.
@@ -145,19 +168,24 @@ impl<'t> Table<'t> {
     fn change(&mut self, number: u8, operator: Operator) {
         let entry = &mut self.entries[number as usize];
         self.changes.push(Change { entry: number, former: entry.operator });
-        self.in_force -= u8::from(entry.operator.has_role());
-        self.in_force += u8::from(operator.has_role());
+        let (former, new) = (Counts::of(entry.operator), Counts::of(operator));
         entry.operator = operator;
+        let counts = &mut self.counts;
+        counts.in_force = counts.in_force - former.in_force + new.in_force;
+        counts.infix_and_postfix =
+            counts.infix_and_postfix - former.infix_and_postfix + new.infix_and_postfix;
+        counts.without_conditions =
+            counts.without_conditions - former.without_conditions + new.without_conditions;
     }
 
     /// Gives a word or sign a role.
-    pub fn declare(&mut self, token: &Token, fixity: Fixity, associativity: Associativity, precedence: u16) {
+    pub fn declare(&mut self, token: &Token, fixity: Fixity, role: Role) {
         let number = match self.find(token) {
             Some(number) => number,
             None => self.add(token),
         };
         let operator = self.entries[number as usize].operator;
-        self.change(number, operator.with(fixity, associativity, precedence));
+        self.change(number, operator.with(fixity, role));
     }
 
     /// Takes all roles from a word or sign.
@@ -170,15 +198,13 @@ impl<'t> Table<'t> {
     pub fn open_block(&mut self) {
         let entries = self.entries.len() as u8;
         let changes = self.changes.len() as u16;
-        self.blocks.push(Block { entries, changes, in_force: self.in_force });
+        self.blocks.push(Block { entries, changes, counts: self.counts });
     }
 
-    /// Do the operators in force keep the overloading rules? Those that the
-    /// innermost block leaves alone did so outside it.
-    pub fn is_consistent(&self) -> bool {
-        let first = self.blocks.last().map_or(0, |block| block.changes as usize);
-        let mut changes = self.changes[first..].iter();
-        changes.all(|change| self.entries[change.entry as usize].operator.is_consistent())
+    /// The overloading rule: no operator in force is both infix and postfix, or
+    /// every one meets the four conditions.
+    pub fn is_permitted(&self) -> bool {
+        self.counts.infix_and_postfix == 0 || self.counts.without_conditions == 0
     }
 
     /// Brings the outer table back.
@@ -192,6 +218,6 @@ impl<'t> Table<'t> {
             let Some(entry) = self.entries.pop() else { return };
             self.buckets[bucket(entry.key)] = entry.next;
         }
-        self.in_force = block.in_force;
+        self.counts = block.counts;
     }
 }

@@ -1,7 +1,7 @@
 //! Tokens: checks 2 to 5.
 
 use super::list::List;
-use super::role::Roles;
+use super::role::Operator;
 use super::{MAX_TOKENS, Reject};
 
 const MAX_NAME: usize = 63;
@@ -17,10 +17,7 @@ pub enum Kind {
         bare: bool,
     },
     /// A word or sign with a role in force, once resolved.
-    Operator {
-        precedence: u16,
-        roles: Roles,
-    },
+    Operator(Operator),
     /// `(`, with the number of its `)` once linked.
     Open {
         close: u16,

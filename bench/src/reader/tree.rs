@@ -1,15 +1,17 @@
 //! Trees: check 11. Operator precedence over each span, one token at a time.
 //!
 //! What stands before an operator and the token after it settle its fixity.
-//! Where an operand is wanted it is a prefix. After an operand it is infix if
+//! Where an operand is wanted it is a prefix. After an operand it is infix or
+//! postfix, whichever role it has. Where it has both, every operator in force
+//! meets the four conditions, so each has one precedence. It is infix then if
 //! a right operand of lower precedence can follow, that is, before an operand
 //! or an operator of lower precedence; postfix before the span's end or an
-//! operator of higher precedence. Before one of its own precedence it is infix
-//! exactly if it is right-associative: an operand of that precedence on the
-//! right needs that, and the overloading rules then leave it no postfix role.
+//! operator of higher precedence. Before one of its own precedence it is
+//! postfix: an operand of that precedence on the right needs a
+//! right-associative operator, and such a one has no postfix role.
 
 use super::list::List;
-use super::role::{Associativity, Fixity, Roles};
+use super::role::{Fixity, Left, Operator, Right, Role};
 use super::token::{Kind, Token};
 use super::{MAX_TOKENS, Reject};
 
@@ -32,6 +34,21 @@ pub struct Node {
     pub kind: NodeKind,
     pub token: u16,
     pub left: u16,
+}
+
+impl Node {
+    /// The role in which a node's operator stands; none of any other node.
+    #[inline(always)]
+    pub fn role(self, tokens: &[Token]) -> Option<Role> {
+        let fixity = match self.kind {
+            NodeKind::Prefix => Fixity::Prefix,
+            NodeKind::Infix => Fixity::Infix,
+            NodeKind::Postfix => Fixity::Postfix,
+            _ => return None,
+        };
+        let Kind::Operator(operator) = tokens[self.token as usize].kind else { unreachable!() };
+        operator.get(fixity)
+    }
 }
 
 /// What is known of the operand just read; its root is the last node.
@@ -110,24 +127,39 @@ impl Builder<'_> {
         Ok(Operand { precedence, right })
     }
 
+    /// Is an operator that is both infix and postfix the one or the other, by
+    /// the token that follows?
+    fn is_infix(&self, next: usize, precedence: u16) -> bool {
+        match self.tokens.get(next).map(|next| next.kind) {
+            None | Some(Kind::Close | Kind::End) => false,
+            Some(Kind::Operator(next)) => {
+                let fixities = [Fixity::Prefix, Fixity::Infix, Fixity::Postfix];
+                fixities
+                    .into_iter()
+                    .find_map(|fixity| next.get(fixity))
+                    .is_some_and(|next| next.precedence < precedence)
+            }
+            Some(_) => true,
+        }
+    }
+
     #[inline(always)]
-    fn operator(&mut self, at: usize, precedence: u16, roles: Roles) -> Result<(), NoTree> {
+    fn operator(&mut self, at: usize, operator: Operator) -> Result<(), NoTree> {
         let token = at as u16;
         let Some(mut operand) = self.operand else {
-            let right = roles.get(Fixity::Prefix).ok_or(NoTree)? == Associativity::Right;
+            let Role { precedence, associativity } = operator.get(Fixity::Prefix).ok_or(NoTree)?;
+            let right = associativity == Right;
             self.pending.push(Pending { kind: NodeKind::Prefix, right, precedence, token, left: 0 });
             return Ok(());
         };
-        let infix = match self.tokens.get(at + 1).map(|next| next.kind) {
-            None | Some(Kind::Close | Kind::End) => false,
-            Some(Kind::Operator { precedence: next, .. }) => {
-                next < precedence
-                    || next == precedence && roles.get(Fixity::Infix) == Some(Associativity::Right)
-            }
-            Some(_) => true,
+        let (infix, role) = match (operator.get(Fixity::Infix), operator.get(Fixity::Postfix)) {
+            (None, None) => return Err(NoTree),
+            (Some(role), None) => (true, role),
+            (None, Some(role)) => (false, role),
+            (Some(infix), Some(_)) if self.is_infix(at + 1, infix.precedence) => (true, infix),
+            (Some(_), Some(postfix)) => (false, postfix),
         };
-        let fixity = if infix { Fixity::Infix } else { Fixity::Postfix };
-        let associativity = roles.get(fixity).ok_or(NoTree)?;
+        let Role { precedence, associativity } = role;
         loop {
             let top = self.top();
             if top.precedence > precedence || top.precedence == precedence && top.right {
@@ -136,13 +168,13 @@ impl Builder<'_> {
             operand = self.reduce(top, operand)?;
         }
         let admitted = operand.precedence < precedence
-            || operand.precedence == precedence && associativity == Associativity::Left && !operand.right;
+            || operand.precedence == precedence && associativity == Left && !operand.right;
         if !admitted {
             return Err(NoTree);
         }
         let left = self.last_node();
         if infix {
-            let right = associativity == Associativity::Right;
+            let right = associativity == Right;
             self.pending.push(Pending { kind: NodeKind::Infix, right, precedence, token, left });
             self.operand = None;
         } else {
@@ -201,7 +233,7 @@ pub fn build(tokens: &[Token], nodes: &mut List<Node, MAX_TOKENS>) -> Result<(),
         let step = match tokens.get(at).map(|token| token.kind) {
             Some(Kind::Word | Kind::Sign | Kind::Quoted { .. }) => builder.leaf(NodeKind::Name, at),
             Some(Kind::Number) => builder.leaf(NodeKind::Number, at),
-            Some(Kind::Operator { precedence, roles }) => builder.operator(at, precedence, roles),
+            Some(Kind::Operator(operator)) => builder.operator(at, operator),
             Some(Kind::Open { .. }) => {
                 builder.want_operand().map(|()| builder.open(NodeKind::Bracket, at, at))
             }

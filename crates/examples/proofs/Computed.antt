@@ -57,7 +57,7 @@ unfolding Answer.tokensOf Answer.startsOf Answer.offsetOf Answer.spanOffset Answ
     Nodes.count Nodes.nodeWords Nodes.operatorWords Nodes.words Operator.sameFixity Operator.sameAssociativity Operator.allowed
     Operator.role Operator.isSome Operator.hasRole Operator.inForce Operator.replaced Operator.declareRole Operator.removeRoles
     Operator.onePrecedenceTest Operator.only Operator.absentRole Operator.besideInfix Operator.lawfulAssociativities
-    Operator.lawful Operator.lawfulTable Operator.listed Outcome.andThen Outcome.placed Scan.run Scan.keywordOrSymbol Scan.atMost
+    Operator.lawful Operator.isApart Operator.everyOperator Operator.permitted Operator.listed Outcome.andThen Outcome.placed Scan.run Scan.keywordOrSymbol Scan.atMost
     Scan.quotedName Scan.frontOf Scan.front Scan.before Scan.scan Span.itemTokens Span.effect Span.ownItem Span.isIn Span.beforeIn
     Span.afterIn Span.item Span.itemsFrom Span.items SpanTree.yield SpanTree.present SpanTree.fixityBy SpanTree.fixity
     SpanTree.roleOfFixity SpanTree.roleOver SpanTree.root SpanTree.rootPrecedence SpanTree.isLeft SpanTree.isRight

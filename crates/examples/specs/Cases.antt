@@ -15,7 +15,7 @@ cases =
     ∷ record { text = bytes "1234567890"; listing = bytes "refused 4 at 0\n" }
     ∷ record { text = bytes "( a"; listing = bytes "refused 6 at 3\n" }
     ∷ record { text = bytes "let infix left 0 + ; in a end"; listing = bytes "refused 8 at 15\n" }
-    ∷ record { text = bytes "let infix right 400 - ; in a end"; listing = bytes "refused 10 at 24\n" }
+    ∷ record { text = bytes "let infix right 400 - ; in a end"; listing = bytes "read 2\n0 name 0 0 27 1 0\n1 block 0 0 0 26 0\ntidy 32\nlet infix right 400 - ; in a end\n" }
     ∷ record { text = bytes "a - - b"; listing = bytes "refused 11 at 0\n" }
     ∷ record { text = bytes "let in a end"; listing = bytes "read 2\n0 name 0 0 7 1 0\n1 block 0 0 0 6 0\ntidy 12\nlet in a end\n" }
     ∷ record { text = bytes "grade = 7 and not leaver"; listing = bytes "read 6\n0 name 0 0 0 5 0\n1 number 0 0 8 1 0\n2 infix 0 1 6 1 500\n3 name 0 0 18 6 0\n4 prefix 3 0 14 3 600\n5 infix 2 4 10 3 700\ntidy 24\ngrade = 7 and not leaver\n" }
@@ -31,7 +31,7 @@ cases =
     ∷ record { text = (194 ∷ 219 ∷ 178 ∷ 56 ∷ 107 ∷ 58 ∷ 75 ∷ 4 ∷ 207 ∷ 244 ∷ 65 ∷ []); listing = bytes "refused 2 at 0\n" }
     ∷ record { text = bytes "(not(1*let postfix non 700!;in prefix end a_a_a_a_a_a_a_a_a_a_a_a_a_a_a_a_a_a_a_a_a_a_a_a_a_a_a_a_a_a_a_a_a_a_a_a_a_a_a_a_ ))*7"; listing = bytes "refused 4 at 42\n" }
     ∷ record { text = bytes "let in Year_7 + 00000 end"; listing = bytes "read 4\n0 name 0 0 7 6 0\n1 number 0 0 16 5 0\n2 infix 0 1 14 1 400\n3 block 2 0 0 6 0\ntidy 21\nlet in Year_7 + 0 end\n" }
-    ∷ record { text = bytes "let prefix right 300 * ; in let x in a end end"; listing = bytes "refused 10 at 25\n" }
+    ∷ record { text = bytes "let prefix right 300 * ; in let x in a end end"; listing = bytes "refused 8 at 32\n" }
     ∷ record { text = (39 ∷ 103 ∷ 105 ∷ 118 ∷ 101 ∷ 110 ∷ 45 ∷ 110 ∷ 97 ∷ 109 ∷ 101 ∷ 39 ∷ 60 ∷ 40 ∷ 13 ∷ 10 ∷ 35 ∷ 32 ∷ 111 ∷ 114 ∷ 32 ∷ 102 ∷ 111 ∷ 111 ∷ 41 ∷ []); listing = bytes "read 6\n0 name 0 0 1 10 0\n1 name 0 0 16 1 0\n2 name 0 0 21 3 0\n3 infix 1 2 18 2 800\n4 bracket 3 0 0 0 0\n5 infix 0 4 12 1 500\ntidy 27\n'given-name' < ( # or foo )\n" }
     ∷ record { text = bytes "let plain s ; infix left 250 s ; prefix non 250 s ; postfix left 250 s ; plain < ; infix non 300 < ; prefix non 300 < ; postfix non 300 < ; in a < a s a end"; listing = bytes "read 6\n0 name 0 0 143 1 0\n1 name 0 0 147 1 0\n2 name 0 0 151 1 0\n3 infix 1 2 149 1 250\n4 infix 0 3 145 1 300\n5 block 4 0 0 142 0\ntidy 156\nlet plain s ; infix left 250 s ; prefix non 250 s ; postfix left 250 s ; plain < ; infix non 300 < ; prefix non 300 < ; postfix non 300 < ; in a < a s a end\n" }
     ∷ record { text = bytes "ui = -0' = -0!"; listing = bytes "refused 3 at 7\n" }
@@ -127,7 +127,7 @@ cases =
     ∷ record { text = bytes "let infix non 400 + ; infix in a end"; listing = bytes "refused 8 at 28\n" }
     ∷ record { text = bytes "let plain < ; prefix non 300 < ; postfix left 300 < ; plain is ; infix left 400 is ; prefix non 400 is ; postfix left 400 is ; plain m ; prefix right 400 m ; postfix left 400 m ; in m m Year_7 is non = ( Let or ( b is or - i - Year_7 ) ) end"; listing = bytes "read 18\n0 name 0 0 186 6 0\n1 name 0 0 196 3 0\n2 infix 0 1 193 2 400\n3 prefix 2 0 184 1 400\n4 prefix 3 0 182 1 400\n5 name 0 0 204 3 0\n6 name 0 0 213 1 0\n7 postfix 6 0 215 2 400\n8 name 0 0 223 1 0\n9 prefix 8 0 221 1 400\n10 name 0 0 227 6 0\n11 infix 9 10 225 1 400\n12 infix 7 11 218 2 800\n13 bracket 12 0 0 0 0\n14 infix 5 13 208 2 800\n15 bracket 14 0 0 0 0\n16 infix 4 15 200 1 500\n17 block 16 0 0 181 0\ntidy 241\nlet plain < ; prefix non 300 < ; postfix left 300 < ; plain is ; infix left 400 is ; prefix non 400 is ; postfix left 400 is ; plain m ; prefix right 400 m ; postfix left 400 m ; in m m Year_7 is non = ( Let or ( b is or - i - Year_7 ) ) end\n" }
     ∷ record { text = (108 ∷ 101 ∷ 116 ∷ 32 ∷ 32 ∷ 112 ∷ 111 ∷ 115 ∷ 116 ∷ 102 ∷ 105 ∷ 120 ∷ 10 ∷ 108 ∷ 101 ∷ 102 ∷ 116 ∷ 32 ∷ 53 ∷ 48 ∷ 32 ∷ 115 ∷ 32 ∷ 10 ∷ 32 ∷ 59 ∷ 13 ∷ 10 ∷ 112 ∷ 108 ∷ 97 ∷ 105 ∷ 110 ∷ 13 ∷ 10 ∷ 45 ∷ 32 ∷ 59 ∷ 10 ∷ 112 ∷ 114 ∷ 101 ∷ 102 ∷ 105 ∷ 120 ∷ 32 ∷ 110 ∷ 111 ∷ 110 ∷ 32 ∷ 49 ∷ 13 ∷ 10 ∷ 45 ∷ 13 ∷ 10 ∷ 59 ∷ 105 ∷ 110 ∷ 32 ∷ 32 ∷ 40 ∷ 40 ∷ 40 ∷ 32 ∷ 48 ∷ 43 ∷ 112 ∷ 108 ∷ 97 ∷ 105 ∷ 110 ∷ 32 ∷ 42 ∷ 32 ∷ 43 ∷ 43 ∷ 32 ∷ 10 ∷ 32 ∷ 97 ∷ 110 ∷ 100 ∷ 32 ∷ 40 ∷ 32 ∷ 32 ∷ 105 ∷ 110 ∷ 102 ∷ 105 ∷ 120 ∷ 10 ∷ 111 ∷ 114 ∷ 32 ∷ 111 ∷ 112 ∷ 32 ∷ 41 ∷ 32 ∷ 43 ∷ 40 ∷ 9 ∷ 105 ∷ 41 ∷ 32 ∷ 41 ∷ 60 ∷ 108 ∷ 101 ∷ 116 ∷ 32 ∷ 105 ∷ 110 ∷ 102 ∷ 105 ∷ 120 ∷ 32 ∷ 32 ∷ 46 ∷ 32 ∷ 110 ∷ 111 ∷ 110 ∷ 32 ∷ 56 ∷ 54 ∷ 53 ∷ 32 ∷ 105 ∷ 115 ∷ 32 ∷ 32 ∷ 59 ∷ 32 ∷ 32 ∷ 105 ∷ 110 ∷ 32 ∷ 10 ∷ 32 ∷ 48 ∷ 48 ∷ 48 ∷ 48 ∷ 48 ∷ 55 ∷ 105 ∷ 115 ∷ 32 ∷ 110 ∷ 111 ∷ 116 ∷ 32 ∷ 32 ∷ 102 ∷ 111 ∷ 111 ∷ 32 ∷ 32 ∷ 61 ∷ 32 ∷ 48 ∷ 48 ∷ 48 ∷ 48 ∷ 48 ∷ 48 ∷ 42 ∷ 32 ∷ 108 ∷ 101 ∷ 116 ∷ 115 ∷ 32 ∷ 101 ∷ 110 ∷ 100 ∷ 9 ∷ 111 ∷ 114 ∷ 32 ∷ 10 ∷ 32 ∷ 105 ∷ 110 ∷ 102 ∷ 105 ∷ 120 ∷ 13 ∷ 10 ∷ 97 ∷ 110 ∷ 100 ∷ 32 ∷ 101 ∷ 110 ∷ 100 ∷ 115 ∷ 32 ∷ 32 ∷ 41 ∷ 32 ∷ 115 ∷ 32 ∷ 60 ∷ 9 ∷ 108 ∷ 101 ∷ 116 ∷ 115 ∷ 43 ∷ 10 ∷ 76 ∷ 101 ∷ 116 ∷ 41 ∷ 115 ∷ 10 ∷ 101 ∷ 110 ∷ 100 ∷ []); listing = bytes "refused 2 at 120\n" }
-    ∷ record { text = bytes "let postfix non 50 xor ; plain r ; prefix right 500 = ; postfix left 400 :- ; prefix non 300 ^ ; in let infix left 0350 plain ; infix non 400 - ; in let in let postfix non 569 -- ; plain ^ ; in - ( z_ ) end end end end"; listing = bytes "refused 10 at 97\n" }
+    ∷ record { text = bytes "let postfix non 50 xor ; plain r ; prefix right 500 = ; postfix left 400 :- ; prefix non 300 ^ ; in let infix left 0350 plain ; infix non 400 - ; in let in let postfix non 569 -- ; plain ^ ; in - ( z_ ) end end end end"; listing = bytes "read 7\n0 name 0 0 198 2 0\n1 bracket 0 0 0 0 0\n2 prefix 1 0 194 1 400\n3 block 2 0 156 37 0\n4 block 3 0 149 6 0\n5 block 4 0 100 48 0\n6 block 5 0 0 99 0\ntidy 213\nlet postfix non 50 xor ; plain r ; prefix right 500 = ; postfix left 400 :- ; prefix non 300 ^ ; in let infix left 350 plain ; infix non 400 - ; in let in let postfix non 569 -- ; plain ^ ; in - z_ end end end end\n" }
     ∷ record { text = bytes "let plain s ; prefix right 400 s ; postfix non 400 s ; plain is ; infix non 300 is ; prefix non 300 is ; postfix non 300 is ; in - - s 1 is end"; listing = bytes "refused 11 at 126\n" }
     ∷ record { text = bytes "let prefix non 0450xor;in let infix left 450xor;in(not let prefix right 400plain;in l right 300foo;infix left 825?;in let prefix right 500infix;in a end end end)*let in-let infix non 1200is;prefix right 300infix;in op end end end end"; listing = bytes "refused 6 at 98\n" }
     ∷ record { text = bytes "let postfix non 000000400 r ; in ( ( not 42 = let prefix non 300 * ; prefix non 300 * ; in 000000042 end ) * let in prefix end r ) + ( not ( 'let' or let prefix right 450 / ; in / 'a''' + 0 end ) ) end"; listing = bytes "refused 3 at 183\n" }

@@ -101,9 +101,16 @@ limits =
     ∷ refusal (bytes "let ( in a end") 6 4
     -- An operator behind its block's `end` is none.
     ∷ refusal (bytes "let infix left 400 x ; in a x b end x c") 11 0
-    -- The four conditions are judged at `in`, not after each declaration; the first one is broken by two precedences.
-    ∷ success (bytes "let infix left 300 - ; prefix non 300 - ; in a end") 2 50
-    ∷ refusal (bytes "let infix left 300 - ; in a end") 10 23
+    -- The overloading rule is judged at `in`, not after each declaration. Where no operator is both infix and postfix nothing is asked; ..
+    ∷ success (bytes "let infix left 7 x ; postfix left 8 x ; postfix left 7 x ; in a end") 2 67
+    ∷ refusal (bytes "let infix left 7 x ; postfix left 8 x ; in a end") 10 40
+    ∷ success (bytes "let infix left 300 - ; in a end") 2 31
+    ∷ success (bytes "let prefix right 200 - ; infix left 500 - ; in a - - b end") 5 58
+    -- .. one that is puts all operators in force under the four conditions, those of the outer blocks too.
+    ∷ refusal (bytes "let infix left 7 x ; postfix left 7 x ; infix right 400 - ; in a end") 10 60
+    ∷ success (bytes "let infix left 7 x ; postfix left 7 x ; infix left 400 - ; in a end") 2 67
+    ∷ refusal (bytes "let infix left 500 - ; in let infix left 7 x ; postfix left 7 x ; in a end end") 10 66
+    ∷ success (bytes "let infix left 500 - ; in let infix left 7 x ; postfix left 7 x ; plain - ; in a end end") 3 88
     ∷ refusal (bytes "3a") 11 0
     -- Lent buffers just long enough, and one word or byte short.
     ∷ record { text = bytes "a"; words = 6; room = 1; reading = answer 0 0 1; canonicalizing = answer 0 0 1 }

@@ -11,12 +11,12 @@ use Rattle.grammar.specs.Bytes.{All}
 use Rattle.grammar.specs.Token.{Atom, Token, structure, closing, keywordIn, keywordEnd}
 use Rattle.grammar.specs.Outcome.{Outcome, refused, passed, andThen}
 use Rattle.grammar.specs.Operator.{Table, Distinct}
-use Rattle.grammar.specs.Declaration.{Declaration, declareAll, declarations, allTokens, startTable, isReserved, enter}
+use Rattle.grammar.specs.Declaration.{Declaration, declareAll, declarations, allTokens, startTable, enter}
 use Rattle.grammar.specs.Nesting.{nesting}
 use Rattle.grammar.specs.Span.{Item, single, pair, scope, itemTokens, allItemTokens, ItemsOf, body, items}
 use Rattle.grammar.specs.Spans.{Span, startOf, numberBehind, wholeSpan, pairSpan, bodySpan, SpanIn, itself, BlockOf}
 use Rattle.grammar.specs.Blocks.{checkItem, checkItems, checkBlocks}
-use Rattle.grammar.specs.Fault.{DeclarationFault, BlockFault}
+use Rattle.grammar.specs.Fault.{current, DeclarationFault, BlockFault}
 use Rattle.grammar.proofs.ItemsRelation.{items-of, items-only, items-flat-tokens}
 use Rattle.grammar.proofs.Logic.{impossible}
 use Rattle.grammar.proofs.Declarations.{enter-sound}
@@ -30,7 +30,7 @@ use Rattle.grammar.proofs.TextSound.{Nested, Inside, inside-items, pair
 -- Among items under the operators `T`, the first at token number `i`, a block whose `let` is token number `j` has a fault.
 data FaultIn : Table → ℕ → List Item → ℕ → ℕ → ℕ → Type 0 where
   ofBlock :
-      {T : Table} {i : ℕ} {ds us : List Token} {xs : List Item} {n k : ℕ} → DeclarationFault isReserved T ds n k → FaultIn T i (scope ds us ∷ xs) i n k
+      {T : Table} {i : ℕ} {ds us : List Token} {xs : List Item} {n k : ℕ} → DeclarationFault current T ds n k → FaultIn T i (scope ds us ∷ xs) i n k
   inPair :
       {T : Table} {i : ℕ} {us : List Token} {xs ks : List Item} {j n k : ℕ} → ItemsOf us ks → FaultIn T (suc i) ks j n k
       → FaultIn T i (pair us ∷ xs) j n k
@@ -53,7 +53,7 @@ behind i (x ∷ xs) ys f =
 -- A block of some span in the span, which has a fault, is among them ..
 span-fault :
     {s r : Span} {n k : ℕ} → SpanIn s r → (xs : List Item) (ds us : List Token) (ys : List Item) → r .contents ≡ xs ++ scope ds us ∷ ys
-    → DeclarationFault isReserved (r .table) ds n k → FaultIn (s .table) (startOf (s .opener)) (s .contents) (numberBehind r xs) n k
+    → DeclarationFault current (r .table) ds n k → FaultIn (s .table) (startOf (s .opener)) (s .contents) (numberBehind r xs) n k
 span-fault {s} itself xs ds us ys e f = rw e (behind (startOf (s .opener)) xs (scope ds us ∷ ys) (ofBlock f))
 span-fault {s} (SpanIn.inPair zs vs ws ks c m h) xs ds us ys e f =
     rw c (behind (startOf (s .opener)) zs (pair vs ∷ ws) (inPair m (span-fault h xs ds us ys e f)))
@@ -68,7 +68,7 @@ record Faulty (s : Span) (j n k : ℕ) : Type 0 where
   after : List Item
   cut : s .contents ≡ before ++ scope part inside ∷ after
   number : j ≡ numberBehind s before
-  fault : DeclarationFault isReserved (s .table) part n k
+  fault : DeclarationFault current (s .table) part n k
 
 number-behind : {i : ℕ} (s : Span) (xs : List Item) (x : Item) → i ≡ numberBehind s xs → i + length (itemTokens x) ≡ numberBehind s (xs ++ x ∷ [])
 unfolding allItemTokens
@@ -167,7 +167,7 @@ module _ {T T′ : Table} {i i′ : ℕ} {x : Item} {xs ks : List Item} (fits : 
 
 -- A block with a fault of its own comes before what is in its body and behind it.
 block-first :
-    {T : Table} {ds us : List Token} {xs : List Item} {n k : ℕ} (i : ℕ) → DeclarationFault isReserved T ds n k
+    {T : Table} {ds us : List Token} {xs : List Item} {n k : ℕ} (i : ℕ) → DeclarationFault current T ds n k
     → First T i (scope ds us ∷ xs) n (suc (i + k))
 block-first {T} {ds} {us} {xs} {n} {k} i f = record { number = i; at = k; fault = ofBlock f; place = refl; only = only }
   where
@@ -206,7 +206,7 @@ pair-says T i us xs h =
 -- A block that has no fault of its own.
 body-says :
     (T : Table) (i : ℕ) (ds us : List Token) (xs : List Item) (es : List Declaration) → ds ≡ allTokens es → Nested us
-    → ((n k : ℕ) → DeclarationFault isReserved T ds n k → ⊥) → (o r : Outcome (Unit {0})) → Says (declareAll T es) (suc (suc (i + length ds))) (items us) o
+    → ((n k : ℕ) → DeclarationFault current T ds n k → ⊥) → (o r : Outcome (Unit {0})) → Says (declareAll T es) (suc (suc (i + length ds))) (items us) o
     → Says T (i + length (itemTokens (scope ds us))) xs r → Says T i (scope ds us ∷ xs) (andThen o (λ u. r))
 body-says T i ds us xs es d h fine =
     item-says (omega (arith, items-length us h, scope-length ds us)) (λ j n k c. inBody es d (items-of us 0 (h 0)) c) found
@@ -239,7 +239,7 @@ module _ (f : ℕ)
       (body-says T i ds us xs es (sym w) h fine (checkBlocks f (declareAll T es) j us) r
       (below (declareAll T es) j us (distinct-declared T es q) h l) g)
     where
-      fine : (n k : ℕ) → DeclarationFault isReserved T ds n k → ⊥
+      fine : (n k : ℕ) → DeclarationFault current T ds n k → ⊥
       fine n k c =
           let z : passed U ≡ refused n (suc i + k) = sym e ∙ enter-fault T q (suc i) ds n k .1 c in
           impossible cc
@@ -266,7 +266,7 @@ blocks-say (suc f) T i ts q h l = items-say f (blocks-say f) T i (items ts) q (i
 
 -- The blocks of a text with a fault are those among the items of its tokens.
 fault-among :
-    (ts : List Token) {T : Table} {j : ℕ} {ds : List Token} {n k : ℕ} → BlockOf ts T j ds → DeclarationFault isReserved T ds n k
+    (ts : List Token) {T : Table} {j : ℕ} {ds : List Token} {n k : ℕ} → BlockOf ts T j ds → DeclarationFault current T ds n k
     → FaultIn startTable 0 (items ts) j n k
 fault-among ts {ds = ds} b f =
     let (is, m, h) = b .among in
@@ -275,7 +275,7 @@ fault-among ts {ds = ds} b f =
 
 block-of :
     (ts : List Token) → nesting [] 0 ts ≡ passed tt → {j n k : ℕ} → FaultIn startTable 0 (items ts) j n k
-    → (T : Table) × (ds : List Token) × BlockOf ts T j ds × DeclarationFault isReserved T ds n k
+    → (T : Table) × (ds : List Token) × BlockOf ts T j ds × DeclarationFault current T ds n k
 unfolding allItemTokens
 block-of ts h f =
     let (r, a, g) = fault-span (wholeSpan (items ts)) [] refl refl refl f in
@@ -293,7 +293,7 @@ block-of ts h f =
     (r .table, g .part, b, g .fault)
 
 -- What the checks say is the first fault.
-first-fault : (ts : List Token) → nesting [] 0 ts ≡ passed tt → {n p : ℕ} → First startTable 0 (items ts) n p → BlockFault isReserved ts n p
+first-fault : (ts : List Token) → nesting [] 0 ts ≡ passed tt → {n p : ℕ} → First startTable 0 (items ts) n p → BlockFault current ts n p
 first-fault ts h f =
     let (T, ds, b, g) = block-of ts h (f .fault) in
     record {
@@ -309,7 +309,7 @@ first-fault ts h f =
 
 -- And a first one is no other.
 says-fault :
-    (ts : List Token) → nesting [] 0 ts ≡ passed tt → {n i : ℕ} → BlockFault isReserved ts n i → (o : Outcome (Unit {0})) → Says startTable 0 (items ts) o
+    (ts : List Token) → nesting [] 0 ts ≡ passed tt → {n i : ℕ} → BlockFault current ts n i → (o : Outcome (Unit {0})) → Says startTable 0 (items ts) o
     → o ≡ refused n i
 says-fault ts h b (passed u) f = absurd (f (b .number) _ (b .at) (fault-among ts (b .block) (b .fault)))
 says-fault ts h {n} {i} b (refused m p) f =
@@ -324,7 +324,7 @@ says-fault ts h {n} {i} b (refused m p) f =
 
 -- Rows 8 to 10 and 17 of a text: "then blocks by their `let`".
 pub blocks-fault :
-    (ts : List Token) → nesting [] 0 ts ≡ passed tt → (n i : ℕ) → (checkBlocks (suc (length ts)) startTable 0 ts ≡ refused n i) ↔ BlockFault isReserved ts n i
+    (ts : List Token) → nesting [] 0 ts ≡ passed tt → (n i : ℕ) → (checkBlocks (suc (length ts)) startTable 0 ts ≡ refused n i) ↔ BlockFault current ts n i
 blocks-fault ts h n i = (λ e. first-fault ts h (rw e at said), λ b. says-fault ts h b (checkBlocks (suc (length ts)) startTable 0 ts) said)
   where
     said : Says startTable 0 (items ts) (checkBlocks (suc (length ts)) startTable 0 ts)

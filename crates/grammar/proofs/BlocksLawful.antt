@@ -9,7 +9,7 @@ use lib.ListN.{length}
 use Rattle.grammar.specs.Bytes.{All}
 use Rattle.grammar.specs.Token.{Token, symbol}
 use Rattle.grammar.specs.Outcome.{passed}
-use Rattle.grammar.specs.Operator.{Table, Conditions}
+use Rattle.grammar.specs.Operator.{Table, Permitted}
 use Rattle.grammar.specs.Declaration.{declareAll, declarations, allTokens}
 use Rattle.grammar.specs.Span.{single, items}
 use Rattle.grammar.specs.SpanTree.{yield}
@@ -21,7 +21,7 @@ use Rattle.grammar.proofs.Items.{items-flat}
 use Rattle.grammar.proofs.ItemLists.{CheckedBy, checkItems-passed}
 use Rattle.grammar.proofs.Declarations.{enter-sound}
 use Rattle.grammar.proofs.DeclarationTokens.{declarations-told}
-use Rattle.grammar.proofs.ConditionsTest.{conditions-sound}
+use Rattle.grammar.proofs.OverloadingTest.{permitted-sound}
 use Rattle.grammar.proofs.CheckedTrees.{InnerChecked, IsCheckedTree}
 use Rattle.grammar.proofs.TextTree.{bracket-shorter, block-shorter, left-shorter, right-shorter}
 
@@ -36,7 +36,7 @@ module _ (j : ℕ) (below : (T : Table) (i : ℕ) (t : Tree) → length (flat t)
       let (w, a, u, l, r) = enter-sound T (c .0) (allTokens ds) (c .1) (c .3) in
       let d : declarations (allTokens ds) ≡ ds = declarations-told (declarations (allTokens ds)) ds w in
       let e : c .1 ≡ declareAll T ds = u ∙ ap (declareAll T) d in
-      let m : Conditions (c .1) = conditions-sound (c .1) l in
+      let m : Permitted (c .1) = permitted-sound (c .1) l in
       (rw d at a, rw d at r, rw e at m, below (declareAll T ds) (c .2) t (block-shorter ds t j n) (rw e at (c .4)))
   part-lawful T (node l m r) n k =
       let P = CheckedBy (checkBlocks j) T in

@@ -4,7 +4,7 @@ use mathlib.Core.Path.{_≡_}
 use mathlib.Core.Bool.{true}
 use mathlib.Core.List.{List}
 use Rattle.grammar.specs.Token.{Token}
-use Rattle.grammar.specs.Operator.{Table, Conditions}
+use Rattle.grammar.specs.Operator.{Table, Permitted}
 use Rattle.grammar.specs.Declaration.{declareAll, areDeclarations}
 use Rattle.grammar.specs.Tree.{Tree, nothing, leaf, bracket, block, node, flat, SpanOk, InnerOk, IsTree}
 
@@ -13,7 +13,7 @@ InnerChecked T nothing = Unit {0}
 InnerChecked T (leaf a) = Unit {0}
 InnerChecked T (bracket t) = SpanOk T t × InnerChecked T t
 InnerChecked T (block ds t) =
-    (areDeclarations ds ≡ true) × Conditions (declareAll T ds) × SpanOk (declareAll T ds) t × InnerChecked (declareAll T ds) t
+    (areDeclarations ds ≡ true) × Permitted (declareAll T ds) × SpanOk (declareAll T ds) t × InnerChecked (declareAll T ds) t
 InnerChecked T (node l m r) = InnerChecked T l × InnerChecked T r
 
 pub record IsCheckedTree (T : Table) (ts : List Token) (t : Tree) : Type 0 where

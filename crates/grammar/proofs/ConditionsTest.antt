@@ -1,14 +1,9 @@
--- The test at `in` is the four conditions: `lawful` of the roles of one name, `lawfulTable` of the whole list.
--- A lookup gives the roles of an operator in the list, or none; where no two operators have the same name, each one is looked up.
-use mathlib.Core.Path.{_≡_, refl, sym, fun-ext, _∙_}
-use mathlib.Core.Bool.{Bool, true, false, _&&_}
-use mathlib.Core.List.{[], _∷_}
+-- The test `lawful` of the roles of one name is the four conditions: each condition of two roles is compared with its test.
+use mathlib.Core.Path.{_≡_, refl, sym}
+use mathlib.Core.Bool.{Bool, true, _&&_}
 use mathlib.Core.Option.{Option, none, some}
 use borrow.Author.Tests.{eqb-true, eq-eqb}
-use Rattle.grammar.specs.Bytes.{Bytes, same}
 use Rattle.grammar.specs.Operator.{
-  listed,
-  Distinct,
   Fixity,
   Prefix,
   Infix,
@@ -19,26 +14,16 @@ use Rattle.grammar.specs.Operator.{
   non,
   Role,
   Roles,
-  sameFixity,
   sameAssociativity,
-  Operator,
-  Table,
-  role,
-  replaced,
-  declareRole,
   Lawful,
-  Conditions,
   onePrecedenceTest,
   only,
   absentRole,
   besideInfix,
   lawfulAssociativities,
   lawful,
-  lawfulTable,
 }
-use Rattle.grammar.specs.Declaration.{value, valueFrom, declare, declareAll, startDeclarations, startTable}
-use Rattle.grammar.proofs.Logic.{and-left, and-right, and-intro, clash, same-eq, same-refl}
-use Rattle.grammar.proofs.Operators.{both}
+use Rattle.grammar.proofs.Logic.{and-left, and-right, and-intro, clash}
 
 -- The parts of the test.
 record Parts (r : Roles) : Type 0 where
@@ -185,66 +170,3 @@ lawful-complete r l = and-intro (and-intro (and-intro (equal Prefix Infix) (equa
   where
     equal : (f g : Fixity) → onePrecedenceTest (r f) (r g) ≡ true
     equal f g = precedence-complete (r f) (r g) (l .onePrecedence f g)
-
--- A lookup gives the roles of the first operator if it has the name, and of the rest otherwise.
-lawful-first : (o : Operator) (T : Table) (m : Bytes) → same m (o .name) ≡ true → lawful (role (o ∷ T) m) ≡ lawful (o .roles)
-unfolding lawful role
-lawful-first o T m e = rw (e, role)
-
-lawful-rest : (o : Operator) (T : Table) (m : Bytes) → same m (o .name) ≡ false → lawful (role (o ∷ T) m) ≡ lawful (role T m)
-unfolding lawful role
-lawful-rest o T m e = rw (e, role)
-
-lawful-found : (T : Table) (m : Bytes) → lawfulTable T ≡ true → lawful (role T m) ≡ true
-unfolding lawfulTable lawful role onePrecedenceTest lawfulAssociativities
-lawful-found [] m e = refl
-lawful-found (o ∷ T) m e =
-    let (h, k) = both (lawful (o .roles)) (lawfulTable T) e in
-    go (same m (o .name)) refl h (lawful-found T m k)
-  where
-    go : (b : Bool) → same m (o .name) ≡ b → lawful (o .roles) ≡ true → lawful (role T m) ≡ true → lawful (role (o ∷ T) m) ≡ true
-    go true d h k = lawful-first o T m d ∙ h
-    go false d h k = lawful-rest o T m d ∙ k
-
--- What passes the test at `in` satisfies the four conditions ..
-pub conditions-sound : (T : Table) → lawfulTable T ≡ true → Conditions T
-conditions-sound T e m = lawful-sound (role T m) (lawful-found T m e)
-
--- A name that is not listed has no role, which is lawful.
-unlisted-role : (T : Table) (m : Bytes) (f : Fixity) → listed m T ≡ false → role T m f ≡ none
-unfolding listed role
-unlisted-role [] m f e = refl
-unlisted-role (o ∷ T) m f e = go (same m (o .name)) refl (unlisted-role T m f)
-  where
-    go : (b : Bool) → same m (o .name) ≡ b → (listed m T ≡ false → role T m f ≡ none) → role (o ∷ T) m f ≡ none
-    go true d h = absurd (clash refl (rw (d, listed) at e))
-    go false d h = rw (d, role) (h (rw (d, listed) at e))
-
-unlisted-lawful : (T : Table) (m : Bytes) → listed m T ≡ false → lawful (role T m) ≡ true
-unfolding lawful onePrecedenceTest lawfulAssociativities
-unlisted-lawful T m e =
-    let h : role T m ≡ (λ f. none) = fun-ext (λ f. unlisted-role T m f e) in
-    rw h
-
--- Each operator of the list is looked up by its name, and the rest of the list gives nothing else.
-found-lawful : (T : Table) → Distinct T → ((m : Bytes) → lawful (role T m) ≡ true) → lawfulTable T ≡ true
-unfolding lawfulTable
-found-lawful [] p c = refl
-found-lawful (o ∷ T) (u, p) c = rw (first, lawfulTable) (found-lawful T p (λ m. rest m (same m (o .name)) refl))
-  where
-    first : lawful (o .roles) ≡ true
-    first = sym (lawful-first o T (o .name) (same-refl (o .name))) ∙ c (o .name)
-
-    rest : (m : Bytes) (b : Bool) → same m (o .name) ≡ b → lawful (role T m) ≡ true
-    rest m true d = unlisted-lawful T m (rw (same-eq m (o .name) d) u)
-    rest m false d = sym (lawful-rest o T m d) ∙ c m
-
--- .. and what satisfies them passes.
-pub conditions-complete : (T : Table) → Distinct T → Conditions T → lawfulTable T ≡ true
-conditions-complete T p c = found-lawful T p (λ m. lawful-complete (role T m) (c m))
-
--- The eight operators at the start satisfy the conditions.
-pub conditions-start : Conditions startTable
-unfolding startTable startDeclarations declareAll declare declareRole same value valueFrom replaced sameFixity
-    lawfulTable lawful onePrecedenceTest lawfulAssociativities besideInfix only absentRole sameAssociativity
-conditions-start = conditions-sound startTable refl

@@ -1,6 +1,6 @@
 -- Checks 8 to 10 and 17 of a declaration part answer with its one fault: "each declaration complete through its `;` before it takes
 -- effect (8, then 9), then 10", and 17 "after 8 and before 9". A fault behind declarations that take effect is found by reading them; and what is not yet faulty is read on.
-use mathlib.Core.Path.{_≡_, refl, sym, ap, _∙_}
+use mathlib.Core.Path.{_≡_, refl, sym, ap, subst, _∙_}
 use mathlib.Core.Bool.{Bool, true, false}
 use mathlib.Core.Logic.{_↔_}
 use mathlib.Core.List.{List, [], _∷_, _++_, append-assoc}
@@ -10,7 +10,7 @@ use lib.ListN.{length, length-append}
 use borrow.Author.Tests.{leb-true, leb-false}
 use Rattle.grammar.specs.Bytes.{Bytes}
 use Rattle.grammar.specs.Token.{Token}
-use Rattle.grammar.specs.Operator.{Table, Distinct, lawfulTable}
+use Rattle.grammar.specs.Operator.{Table, Distinct, permitted}
 use Rattle.grammar.specs.Outcome.{Outcome, refused, passed}
 use Rattle.grammar.specs.Declaration.{
   Declaration,
@@ -33,12 +33,12 @@ use Rattle.grammar.specs.Declaration.{
   checkedAt,
   enter,
 }
-use Rattle.grammar.specs.Fault.{TakeEffect, unchanged, changed, DeclarationFault, malformed, namesReserved, overfull, unlawful}
+use Rattle.grammar.specs.Fault.{current, TakeEffect, unchanged, changed, DeclarationFault, malformed, namesReserved, overfull, unlawful}
 use Rattle.grammar.proofs.Logic.{clash, impossible}
 use Rattle.grammar.proofs.Declarations.{declaration-of, declaration-sound, enter-end, enter-reserved, enter-step}
 use Rattle.grammar.proofs.EnterBehind.{Fits, parsed-shorter, enter-unfit, unfit-refused, reserved-refused, overfull-refused, unlawful-refused}
 use Rattle.grammar.proofs.Operators.{distinct-declared}
-use Rattle.grammar.proofs.ConditionsTest.{conditions-sound, conditions-complete}
+use Rattle.grammar.proofs.OverloadingTest.{permitted-sound, permitted-complete}
 use Rattle.grammar.proofs.FirstUnfit.{unfit-first}
 
 -- Declarations that take effect are allowed, name no reserved operator, have room, and leave what they declare.
@@ -58,7 +58,7 @@ effect-table unchanged = refl
 effect-table (changed a r l e) = effect-table e
 
 -- A fault is answered: behind the declarations that take effect stands what is refused.
-fault-refused : (T : Table) (i : ℕ) (ts : List Token) (n k : ℕ) → DeclarationFault isReserved T ts n k → enter (length ts) T i ts ≡ refused n (i + k)
+fault-refused : (T : Table) (i : ℕ) (ts : List Token) (n k : ℕ) → DeclarationFault current T ts n k → enter (length ts) T i ts ≡ refused n (i + k)
 fault-refused T i ts n k (malformed ds t rest {k = j} e f u) =
     let l = length (allTokens ds ++ t ∷ rest) in
     let h = unfit-refused l T i ds (t ∷ rest) j (effect-allowed f) (effect-fits f) (omega arith) (omega arith) (unfit-first (t ∷ rest) j .1 u) in
@@ -74,11 +74,11 @@ fault-refused T i ts n k (overfull ds d rest e f a r m) =
     let h = overfull-refused T i ds more d rest (declaration-of d rest a) l (effect-allowed f) (effect-fits f) (omega arith) r (rw (effect-table f) at m) in
     rw e (h ∙ ap (refused 9) (omega arith))
 fault-refused T i ts n k (unlawful ds {U} e f c) =
-    let v = rw (effect-table f) at (violated (lawfulTable U) refl) in
+    let v = rw (effect-table f) at (violated (permitted U) refl) in
     rw e (unlawful-refused (length (allTokens ds)) T i ds (effect-allowed f) (effect-fits f) (omega arith) v)
   where
-    violated : (b : Bool) → lawfulTable U ≡ b → lawfulTable U ≡ false
-    violated true h = absurd (c (conditions-sound U h))
+    violated : (b : Bool) → permitted U ≡ b → permitted U ≡ false
+    violated true h = absurd (c (permitted-sound U h))
     violated false h = h
 
 -- A fault behind a declaration that takes effect.
@@ -92,38 +92,41 @@ module _ (T : Table) (d : Declaration) (rest : List Token) (a : isDeclaration d 
   unfolding allTokens
   number-behind ds j = omega (arith, length-append (declarationTokens d) (allTokens ds))
 
+  renumbered : {n j k : ℕ} → j ≡ k → DeclarationFault current T (declarationTokens d ++ rest) n j → DeclarationFault current T (declarationTokens d ++ rest) n k
+  renumbered {n} e f = subst (DeclarationFault current T (declarationTokens d ++ rest) n) e f
+
   fault-behind :
-      (n k : ℕ) → DeclarationFault isReserved (declare T d) rest n k
-      → DeclarationFault isReserved T (declarationTokens d ++ rest) n (length (declarationTokens d) + k)
+      (n k : ℕ) → DeclarationFault current (declare T d) rest n k
+      → DeclarationFault current T (declarationTokens d ++ rest) n (length (declarationTokens d) + k)
   unfolding allTokens
   fault-behind n k (malformed ds t more {k = j} e f u) =
-      rw (number-behind ds j) at (malformed (d ∷ ds) t more (tokens-behind ds (t ∷ more) e) (changed a free l f) u)
+      renumbered (number-behind ds j) (malformed (d ∷ ds) t more (tokens-behind ds (t ∷ more) e) (changed a free l f) u)
   fault-behind n k (namesReserved ds c more e f b r) =
-      rw (number-behind ds (operatorPlace c)) at
+      renumbered (number-behind ds (operatorPlace c))
       (namesReserved (d ∷ ds) c more (tokens-behind ds (declarationTokens c ++ more) e) (changed a free l f) b r)
   fault-behind n k (overfull ds c more e f b r m) =
-      rw (number-behind ds (operatorPlace c)) at
+      renumbered (number-behind ds (operatorPlace c))
       (overfull (d ∷ ds) c more (tokens-behind ds (declarationTokens c ++ more) e) (changed a free l f) b r m)
   fault-behind n k (unlawful ds e f c) =
-      rw (length-append (declarationTokens d) rest) at (unlawful (d ∷ ds) (ap (_++_ (declarationTokens d)) e) (changed a free l f) c)
+      renumbered (length-append (declarationTokens d) rest) (unlawful (d ∷ ds) (ap (_++_ (declarationTokens d)) e) (changed a free l f) c)
 
 -- A refusal at token number `p` of tokens whose first has the number `i` is for a fault. (Where names stand twice in the list of
--- operators, its test is more than the four conditions.)
+-- operators, its test is more than the overloading rule.)
 abbrev Faulty : Table → ℕ → List Token → ℕ → ℕ → Type 0
-Faulty T i ts n p = (k : ℕ) × (p ≡ i + k) × (Distinct T → DeclarationFault isReserved T ts n k)
+Faulty T i ts n p = (k : ℕ) × (p ≡ i + k) × (Distinct T → DeclarationFault current T ts n k)
 
 -- At the end: check 10.
 checked-faulty : (T : Table) (i n p : ℕ) → checkedAt i T ≡ refused n p → Faulty T i [] n p
 unfolding checkedAt allTokens
-checked-faulty T i n p e = go (lawfulTable T) refl
+checked-faulty T i n p e = go (permitted T) refl
   where
-    go : (b : Bool) → lawfulTable T ≡ b → Faulty T i [] n p
+    go : (b : Bool) → permitted T ≡ b → Faulty T i [] n p
     go true h = let f : passed T ≡ refused n p = rw (h, checkedAt) at e in impossible cc
     go false h =
         let f : refused 10 i ≡ refused n p = rw (h, checkedAt) at e in
         let ten : n ≡ 10 = cc in
         let there : p ≡ i = cc in
-        (0, omega arith, λ q. rw ten (unlawful [] refl unchanged (λ c. clash (conditions-complete T q c) h)))
+        (0, omega arith, λ q. rw ten (unlawful [] refl unchanged (λ c. clash (permitted-complete T q c) h)))
 
 -- At a declaration: it does not fit, it names a reserved operator, it is one too many, or it takes effect and the fault is behind it.
 unfit-faulty :
@@ -198,10 +201,10 @@ pub enter-place : (T : Table) (i : ℕ) (ts : List Token) (n p : ℕ) → enter 
 enter-place T i ts n p e = let (k, h, f) = refused-faulty (length ts) T i ts n p (omega arith) e in (k, h)
 
 pub enter-fault :
-    (T : Table) → Distinct T → (i : ℕ) (ts : List Token) (n k : ℕ) → (enter (length ts) T i ts ≡ refused n (i + k)) ↔ DeclarationFault isReserved T ts n k
+    (T : Table) → Distinct T → (i : ℕ) (ts : List Token) (n k : ℕ) → (enter (length ts) T i ts ≡ refused n (i + k)) ↔ DeclarationFault current T ts n k
 enter-fault T q i ts n k = (there, fault-refused T i ts n k)
   where
-    there : enter (length ts) T i ts ≡ refused n (i + k) → DeclarationFault isReserved T ts n k
+    there : enter (length ts) T i ts ≡ refused n (i + k) → DeclarationFault current T ts n k
     there e =
         let (j, h, f) = refused-faulty (length ts) T i ts n (i + k) (omega arith) e in
         let g : k ≡ j = omega arith in
@@ -209,7 +212,7 @@ enter-fault T q i ts n k = (there, fault-refused T i ts n k)
 
 -- A declaration part has one fault at most.
 pub declaration-fault-unique :
-    (T : Table) (ts : List Token) (n m j k : ℕ) → DeclarationFault isReserved T ts n j → DeclarationFault isReserved T ts m k → (n ≡ m) × (j ≡ k)
+    (T : Table) (ts : List Token) (n m j k : ℕ) → DeclarationFault current T ts n j → DeclarationFault current T ts m k → (n ≡ m) × (j ≡ k)
 declaration-fault-unique T ts n m j k p q =
     let h : refused n (0 + j) ≡ refused m (0 + k) = sym (fault-refused T 0 ts n j p) ∙ fault-refused T 0 ts m k q in
     let place : 0 + j ≡ 0 + k = cc in

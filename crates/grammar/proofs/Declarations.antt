@@ -25,7 +25,7 @@ use Rattle.grammar.specs.Token.{
   keywordIn,
   keywordEnd,
 }
-use Rattle.grammar.specs.Operator.{Fixity, Prefix, Infix, Postfix, Associativity, left, right, non, allowed, Table, lawfulTable}
+use Rattle.grammar.specs.Operator.{Fixity, Prefix, Infix, Postfix, Associativity, left, right, non, allowed, Table, permitted}
 use Rattle.grammar.specs.Outcome.{Outcome, refused, passed}
 use Rattle.grammar.specs.Declaration.{
   Declaration,
@@ -269,13 +269,13 @@ unfolding declarations
 declarations-of ds e = declarationsOf-of (length (allTokens ds)) ds e (omega arith)
 
 -- Check 10.
-checked-sound : (i : ℕ) (T U : Table) → checkedAt i T ≡ passed U → (T ≡ U) × (lawfulTable U ≡ true)
+checked-sound : (i : ℕ) (T U : Table) → checkedAt i T ≡ passed U → (T ≡ U) × (permitted U ≡ true)
 unfolding checkedAt
-checked-sound i T U e = tested no-pass (lawfulTable T) e λ p q. (cc, cc)
+checked-sound i T U e = tested no-pass (permitted T) e λ p q. (cc, cc)
 
 checked-anywhere : (i j : ℕ) (T U : Table) → checkedAt i T ≡ passed U → checkedAt j T ≡ passed U
 unfolding checkedAt
-checked-anywhere i j T U e = tested no-pass (lawfulTable T) e λ p q. rw (p, checkedAt) q
+checked-anywhere i j T U e = tested no-pass (permitted T) e λ p q. rw (p, checkedAt) q
 
 -- Checks 8 to 10 and 17 at the end of the tokens, and one declaration further.
 pub enter-end : (k : ℕ) (T : Table) (i : ℕ) → enter k T i [] ≡ checkedAt i T
@@ -331,7 +331,7 @@ module _ (k : ℕ) (T : Table) (i : ℕ) (ts : List Token) {d : Declaration} {re
 enterOf-sound :
     (k : ℕ) (T : Table) (i : ℕ) (ts : List Token) (U : Table) → enter k T i ts ≡ passed U
     → (allTokens (declarationsOf k ts) ≡ ts) × (areDeclarations (declarationsOf k ts) ≡ true)
-    × (U ≡ declareAll T (declarationsOf k ts)) × (lawfulTable U ≡ true) × All Free (declarationsOf k ts)
+    × (U ≡ declareAll T (declarationsOf k ts)) × (permitted U ≡ true) × All Free (declarationsOf k ts)
 unfolding enter declarationsOf allTokens areDeclarations declareAll
 enterOf-sound zero T i [] U e = let (p, q) = checked-sound i T U e in (refl, refl, sym p, q, tt)
 enterOf-sound zero T i (t ∷ ts) U e = absurd (no-pass e)
@@ -354,7 +354,7 @@ enterOf-sound (suc k) T i (t ∷ ts) U e =
 pub enter-sound :
     (T : Table) (i : ℕ) (ts : List Token) (U : Table) → enter (length ts) T i ts ≡ passed U
     → (allTokens (declarations ts) ≡ ts) × (areDeclarations (declarations ts) ≡ true) × (U ≡ declareAll T (declarations ts))
-    × (lawfulTable U ≡ true) × All Free (declarations ts)
+    × (permitted U ≡ true) × All Free (declarations ts)
 unfolding declarations
 enter-sound T i ts U e = enterOf-sound (length ts) T i ts U e
 

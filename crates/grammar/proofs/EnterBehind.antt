@@ -8,7 +8,7 @@ use native.Mathlib.Omega.{arith}
 use lib.ListN.{length, length-append}
 use borrow.Author.Tests.{le-leb, lt-leb}
 use Rattle.grammar.specs.Token.{Token}
-use Rattle.grammar.specs.Operator.{Table, lawfulTable}
+use Rattle.grammar.specs.Operator.{Table, permitted}
 use Rattle.grammar.specs.Outcome.{refused}
 use Rattle.grammar.specs.Declaration.{
   Declaration,
@@ -167,9 +167,9 @@ module _
         → enter k T i (allTokens ds ++ rest) ≡ refused 9 (i + length (allTokens ds) + operatorPlace d)
     overfull-refused k a f h r g = fed k a f h 9 (λ j. enter-overfull j (declareAll T ds) (i + length (allTokens ds)) rest d rest′ e r g)
 
--- Check 10: there are no more declarations, and what is in force violates one of the four conditions.
+-- Check 10: there are no more declarations, and what is in force breaks the overloading rule.
 pub unlawful-refused :
     (k : ℕ) (T : Table) (i : ℕ) (ds : List Declaration) → areDeclarations ds ≡ true → Fits T ds → length (allTokens ds) ≤ k
-    → lawfulTable (declareAll T ds) ≡ false → enter k T i (allTokens ds) ≡ refused 10 (i + length (allTokens ds))
+    → permitted (declareAll T ds) ≡ false → enter k T i (allTokens ds) ≡ refused 10 (i + length (allTokens ds))
 unfolding checkedAt
 unlawful-refused k T i ds a f h l = enter-checked k T i ds a f h ∙ rw (l, checkedAt) refl

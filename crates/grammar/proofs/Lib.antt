@@ -15,6 +15,7 @@ pub mod EnterBehind
 pub mod StripDeclarations
 pub mod Operators
 pub mod ConditionsTest
+pub mod OverloadingTest
 pub mod Climb
 pub mod AdmittingRole
 pub mod WidestRoot
@@ -45,7 +46,9 @@ pub mod ReadingTrees
 pub mod Readings
 pub mod Faults
 pub mod ReservedRoles
+pub mod RulesAlike
 pub mod ReservedNames
+pub mod FourConditions
 pub mod TreeBlocks
 pub mod WordsOffsets
 pub mod CanonicalTree

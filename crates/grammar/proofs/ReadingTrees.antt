@@ -13,7 +13,7 @@ use Rattle.grammar.specs.Tree.{Tree, flat, spanTree}
 use Rattle.grammar.specs.Blank.{blankRule}
 use Rattle.grammar.specs.Answer.{readingTree}
 use Rattle.grammar.proofs.CheckedTrees.{InnerChecked, IsCheckedTree, inner-ok}
-use Rattle.grammar.proofs.ConditionsTest.{conditions-start}
+use Rattle.grammar.proofs.OverloadingTest.{permitted-start}
 use Rattle.grammar.proofs.Operands.{Operated, operated}
 use Rattle.grammar.proofs.Present.{some-token, no-token}
 use Rattle.grammar.proofs.TextTree.{treeOf-complete}
@@ -47,7 +47,7 @@ reading-operated {t = t} h = operated startTable t (h .admitted) (inner-ok start
 pub reading-complete : (ts : List Token) (t : Tree) → IsReading ts t → readingTree ts ≡ some t
 unfolding readingTree
 reading-complete [] t h = rw (is-blank h)
-reading-complete (x ∷ ts) t h = treeOf-complete startTable conditions-start (x ∷ ts) t (is-tree (omega arith) h)
+reading-complete (x ∷ ts) t h = treeOf-complete startTable permitted-start (x ∷ ts) t (is-tree (omega arith) h)
 
 pub reading-unique : (ts : List Token) (t u : Tree) → IsReading ts t → IsReading ts u → t ≡ u
 reading-unique ts t u h g =

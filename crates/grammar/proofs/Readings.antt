@@ -16,7 +16,7 @@ use Rattle.grammar.specs.Bytes.{Bytes}
 use Rattle.grammar.specs.Token.{Token}
 use Rattle.grammar.specs.Outcome.{Outcome, refused, passed, andThen, placed}
 use Rattle.grammar.specs.Scan.{Placed, scan}
-use Rattle.grammar.specs.Operator.{Conditions}
+use Rattle.grammar.specs.Operator.{Permitted}
 use Rattle.grammar.specs.Declaration.{startTable}
 use Rattle.grammar.specs.Nesting.{nesting}
 use Rattle.grammar.specs.SpanTree.{SpanTree}
@@ -32,12 +32,12 @@ use Rattle.grammar.proofs.BlocksLawful.{tree-checked}
 use Rattle.grammar.proofs.ReadingTrees.{IsReading, of-tree, of-none, reading-complete}
 use Rattle.grammar.proofs.Lists.{all-right}
 use Rattle.grammar.proofs.Climb.{climb-sound}
-use Rattle.grammar.proofs.Unambiguous.{conditions-unambiguous}
+use Rattle.grammar.proofs.Unambiguous.{permitted-unambiguous}
 use Rattle.grammar.proofs.ClimbComplete.{climb-complete}
 use Rattle.grammar.proofs.SpanOrder.{first-by-start}
 use Rattle.grammar.proofs.ItemLists.{andThen-passed, andThen-refused}
 use Rattle.grammar.proofs.RefusalNumbers.{scan-number, nesting-number, blocks-number}
-use Rattle.grammar.proofs.ConditionsTest.{conditions-start}
+use Rattle.grammar.proofs.OverloadingTest.{permitted-start}
 use Rattle.grammar.proofs.Nested.{nesting-anywhere}
 use Rattle.grammar.proofs.TextSound.{Nested, treeIn-sound}
 use Rattle.grammar.proofs.Spans.{
@@ -179,16 +179,16 @@ refusal-at :
 refusal-at text ps h o e =
     let f = firstWithout-some (spansOf ps) o e in
     let l =
-    spans-lawful (suc (length ps)) (suc (length ps)) startTable none 0 0 (tokensOf ps) conditions-start (nested-tokens text ps h)
+    spans-lawful (suc (length ps)) (suc (length ps)) startTable none 0 0 (tokensOf ps) permitted-start (nested-tokens text ps h)
     (rw (length-tokens ps) (omega arith)) (h .declared) in
-    let k : Conditions (f .span .table) = (all-right LawfulSpan (f .before) (f .span ∷ f .after) (rw (f .cut) at l)) .0 in
+    let k : Permitted (f .span .table) = (all-right LawfulSpan (f .before) (f .span ∷ f .after) (rw (f .cut) at l)) .0 in
     let q : f .span .opener ≡ o = f .opened in
     record {
       span = f .span;
       among = span-among (spansOf ps) (f .before) (f .after) (f .span) (f .cut);
       treeless =
           λ s i.
-          let w = climb-complete (f .span .table) (conditions-unambiguous (f .span .table) k) (f .span .contents) s i in
+          let w = climb-complete (f .span .table) (permitted-unambiguous (f .span .table) k) (f .span .contents) s i in
           clashing w (f .without);
       first = λ s m n. rw q (first-by-start (suc (length ps)) startTable (tokensOf ps) (h .nested) o e s m (not-found s n));
       offset = ap (spanOffset text ps) (sym q);

@@ -25,7 +25,7 @@ use Rattle.grammar.specs.Token.{
   longestName,
 }
 use Rattle.grammar.specs.Outcome.{Outcome, refused, passed, andThen, placed}
-use Rattle.grammar.specs.Operator.{Table, lawfulTable}
+use Rattle.grammar.specs.Operator.{Table, permitted}
 use Rattle.grammar.specs.Scan.{Placed, run, Front, nothing, wrong, taken, atMost, quotedName, frontOf, front, before, scan}
 use Rattle.grammar.specs.Nesting.{Move, stays, broken, enters, becomes, leaves, move, closeInnermost, nesting}
 use Rattle.grammar.specs.Declaration.{
@@ -172,7 +172,7 @@ nesting-number os i ts = numbered-holds (FromTo 6 7) (nesting os i ts) (nesting-
 
 checkedAt-numbered : (i : ℕ) (T : Table) → Numbered OfBlocks (checkedAt i T)
 unfolding checkedAt
-checkedAt-numbered i T = choice (Numbered OfBlocks) (lawfulTable T) _ _ tt (inl (omega arith))
+checkedAt-numbered i T = choice (Numbered OfBlocks) (permitted T) _ _ tt (inl (omega arith))
 
 enter-step : (k : ℕ) (T : Table) (i : ℕ) (t : Token) (ts : List Token)
     → ((T : Table) (i : ℕ) (ts : List Token) → Numbered OfBlocks (enter k T i ts)) → (d : Parsed) → declaration (t ∷ ts) ≡ d

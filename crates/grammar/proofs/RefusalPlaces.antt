@@ -12,7 +12,7 @@ use Rattle.grammar.specs.Open.{Open, deepest}
 use Rattle.grammar.specs.Bytes.{Bytes, same}
 use Rattle.grammar.specs.Token.{structure, Token, closing, keywordIn, keywordEnd}
 use Rattle.grammar.specs.Outcome.{Outcome, refused, passed}
-use Rattle.grammar.specs.Operator.{Fixity, Associativity, Table, lawfulTable}
+use Rattle.grammar.specs.Operator.{Fixity, Associativity, Table, permitted}
 use Rattle.grammar.specs.Nesting.{Move, stays, broken, enters, becomes, leaves, move, closeInnermost, nesting}
 use Rattle.grammar.specs.Declaration.{
   Declaration,
@@ -128,7 +128,7 @@ module _ (m : ℕ) where
   -- Check 10.
   checkedAt-below : (i : ℕ) (T : Table) → i < m → Below m (checkedAt i T)
   unfolding checkedAt
-  checkedAt-below i T h = choice (Below m) (lawfulTable T) _ _ tt h
+  checkedAt-below i T h = choice (Below m) (permitted T) _ _ tt h
 
   -- One declaration of checks 8 to 10 and 17.
   enter-step : (k : ℕ) (T : Table) (i : ℕ) (t : Token) (ts : List Token)

@@ -10,8 +10,8 @@ use Rattle.grammar.specs.Spelling.{Spells}
 use Rattle.grammar.specs.Operator.{Table}
 use Rattle.grammar.specs.Declaration.{Declaration, declarationTokens, allTokens, isDeclaration, areDeclarations, operatorOf}
 use Rattle.grammar.specs.Spans.{BlockOf}
-use Rattle.grammar.specs.Tree.{Tree}
 use Rattle.grammar.specs.Fault.{
+  Rules,
   TakeEffect,
   unchanged,
   changed,
@@ -21,17 +21,16 @@ use Rattle.grammar.specs.Fault.{
   overfull,
   unlawful,
   BlockFault,
-  FaultReserving,
+  FaultUnder,
   tooLong,
   inTokens,
   inNesting,
   inBlocks,
-  PastReserving,
   Declares,
 }
-use Rattle.grammar.specs.Claim.{TreeReserving, ReadingReserving, ofTree, ofBlank}
 use Rattle.grammar.proofs.Declarations.{declarations-first}
 use Rattle.grammar.proofs.DeclarationFaults.{effect-allowed}
+use Rattle.grammar.proofs.RulesAlike.{Alike}
 
 -- One more declaration behind others.
 more-tokens : (done : List Declaration) (d : Declaration) (rest : List Token) → allTokens (done ++ d ∷ []) ++ rest ≡ allTokens done ++ (declarationTokens d ++ rest)
@@ -48,17 +47,21 @@ more-allowed [] d e a = rw (a, areDeclarations) refl
 more-allowed (c ∷ done) d e a = let (p, q) = declarations-first c done e in rw (p, areDeclarations) (more-allowed done d q a)
 
 -- The two choices agree on what the text declares.
-abbrev pub Alike : (Bytes → Bool) → (Bytes → Bool) → Bytes → Type 0
-Alike R S text = (d : Declaration) → Declares text d → R (operatorOf d) ≡ S (operatorOf d)
+abbrev Agreed : (Bytes → Bool) → (Bytes → Bool) → Bytes → Type 0
+Agreed R S text = (d : Declaration) → Declares text d → R (operatorOf d) ≡ S (operatorOf d)
 
-module _ (R S : Bytes → Bool) (text : Bytes) (alike : Alike R S text) {ts : List Token} (spelled : Spells text ts) where
+-- All else is as it is.
+abbrev reserving : (Table → Type 0) → (Bytes → Bool) → Rules
+reserving overloading reserved = record { reserved = reserved; overloading = overloading }
+
+module _ (O : Table → Type 0) (R S : Bytes → Bool) (text : Bytes) (agreed : Agreed R S text) {ts : List Token} (spelled : Spells text ts) where
   -- A fault of one of its declaration parts.
   module _ {T : Table} {j : ℕ} {part : List Token} (block : BlockOf ts T j part) where
     same-test :
         (done : List Declaration) (d : Declaration) (rest : List Token) → part ≡ allTokens done ++ (declarationTokens d ++ rest)
         → areDeclarations done ≡ true → isDeclaration d ≡ true → R (operatorOf d) ≡ S (operatorOf d)
     same-test done d rest e a b =
-        alike d
+        agreed d
         (record {
           tokens = ts;
           spelled = spelled;
@@ -87,7 +90,7 @@ module _ (R S : Bytes → Bool) (text : Bytes) (alike : Alike R S text) {ts : Li
     unfolding allTokens areDeclarations
     effect rest e f = same-effect [] rest e refl f
 
-    part-fault : {n k : ℕ} → DeclarationFault R T part n k → DeclarationFault S T part n k
+    part-fault : {n k : ℕ} → DeclarationFault (reserving O R) T part n k → DeclarationFault (reserving O S) T part n k
     part-fault (malformed ds t rest e f u) = malformed ds t rest e (effect (t ∷ rest) e f) u
     part-fault (namesReserved ds d rest e f a r) =
         namesReserved ds d rest e (effect (declarationTokens d ++ rest) e f) a (sym (same-test ds d rest e (effect-allowed f) a) ∙ r)
@@ -95,8 +98,8 @@ module _ (R S : Bytes → Bool) (text : Bytes) (alike : Alike R S text) {ts : Li
         overfull ds d rest e (effect (declarationTokens d ++ rest) e f) a (sym (same-test ds d rest e (effect-allowed f) a) ∙ r) m
     part-fault (unlawful ds e f c) = unlawful ds e (effect [] (e ∙ sym (append-nil (allTokens ds))) f) c
 
-module _ (R S : Bytes → Bool) (text : Bytes) (alike : Alike R S text) where
-  block-fault : {ts : List Token} {n i : ℕ} → Spells text ts → BlockFault R ts n i → BlockFault S ts n i
+module _ (O : Table → Type 0) (R S : Bytes → Bool) (text : Bytes) (agreed : Agreed R S text) where
+  block-fault : {ts : List Token} {n i : ℕ} → Spells text ts → BlockFault (reserving O R) ts n i → BlockFault (reserving O S) ts n i
   block-fault s b =
       record {
         table = b .table;
@@ -104,25 +107,16 @@ module _ (R S : Bytes → Bool) (text : Bytes) (alike : Alike R S text) where
         part = b .part;
         at = b .at;
         block = b .block;
-        fault = part-fault R S text alike s (b .block) (b .fault);
+        fault = part-fault O R S text agreed s (b .block) (b .fault);
         place = b .place;
-        first = λ T j ds m k c f. b .first T j ds m k c (part-fault S R text (λ d h. sym (alike d h)) s c f);
+        first = λ T j ds m k c f. b .first T j ds m k c (part-fault O S R text (λ d h. sym (agreed d h)) s c f);
       }
 
-  pub same-fault : {n p : ℕ} → FaultReserving R text n p → FaultReserving S text n p
+  same-fault : {n p : ℕ} → FaultUnder (reserving O R) text n p → FaultUnder (reserving O S) text n p
   same-fault (tooLong h) = tooLong h
   same-fault (inTokens h f) = inTokens h f
   same-fault (inNesting z f t) = inNesting z f t
   same-fault (inBlocks z o f t) = inBlocks z o (block-fault (z .spelled) f) t
 
--- So the text is past them, and has its trees, under both choices.
-module _ (R S : Bytes → Bool) (text : Bytes) (alike : Alike R S text) where
-  pub same-past : {ts : List Token} → PastReserving R text ts → PastReserving S text ts
-  same-past h = record { spelled = h .spelled; faultless = λ n p f. h .faultless n p (same-fault S R text (λ d m. sym (alike d m)) f) }
-
-  same-trees : {t : Tree} → TreeReserving R text t → TreeReserving S text t
-  same-trees h = record { tokens = h .tokens; past = same-past (h .past); isTree = h .isTree }
-
-  pub same-readings : {t : Tree} → ReadingReserving R text t → ReadingReserving S text t
-  same-readings (ofTree h) = ofTree (same-trees h)
-  same-readings (ofBlank b) = ofBlank b
+pub reserved-alike : (O : Table → Type 0) (R S : Bytes → Bool) (text : Bytes) → Agreed R S text → Alike (reserving O R) (reserving O S) text
+reserved-alike O R S text agreed n p = (same-fault O R S text agreed, same-fault O S R text (λ d h. sym (agreed d h)))

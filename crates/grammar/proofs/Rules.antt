@@ -29,7 +29,7 @@ use Rattle.grammar.proofs.Logic.{impossible}
 use Rattle.grammar.proofs.SpanOrder.{opener-within}
 use Rattle.grammar.proofs.TokenFaults.{token-at}
 use Rattle.grammar.proofs.SpansRelation.{span-listed}
-use Rattle.grammar.proofs.ConditionsTest.{conditions-start}
+use Rattle.grammar.proofs.OverloadingTest.{permitted-start}
 use Rattle.grammar.proofs.Climb.{climb-sound}
 use Rattle.grammar.proofs.TextTree.{treeOf-complete}
 use Rattle.grammar.proofs.Spans.{HasTree, spans-have}
@@ -70,7 +70,7 @@ same-reading text t u h g =
 pub same-tree : (text : Bytes) (t u : Tree) → TreeOf text t → TreeOf text u → t ≡ u
 same-tree text t u h g = same-reading text t u (ofTree h) (ofTree g)
 
--- Every block of it has allowed declarations and operators that meet the four conditions.
+-- Every block of it has allowed declarations and operators that keep the overloading rule.
 pub reading-lawful : (text : Bytes) (t : Tree) → ReadingOf text t → BlocksLawful startTable t
 reading-lawful text t (ofTree h) =
     let (ps, c, q) = past-checked text (h .tokens) (h .past) in
@@ -136,7 +136,7 @@ span-treeless :
     → (t : Tree) → IsTree startTable (tokensOf ps) t → ⊥
 unfolding treeOf
 span-treeless text ps h s m never t i =
-    let e = treeOf-complete startTable conditions-start (tokensOf ps) t (text-checked text ps h t i) in
+    let e = treeOf-complete startTable permitted-start (tokensOf ps) t (text-checked text ps h t i) in
     let have = spans-have (suc (length ps)) (suc (length (tokensOf ps))) startTable none 0 (tokensOf ps) t e in
     let (u, q) = all-member HasTree (listed text ps h s .0 m) have in
     never u (climb-sound (s .table) (s .contents) u q)

@@ -8,7 +8,7 @@ use lib.ListN.{length}
 use Rattle.grammar.specs.Spans.{Span}
 use Rattle.grammar.specs.Token.{Token, symbol}
 use Rattle.grammar.specs.Outcome.{passed}
-use Rattle.grammar.specs.Operator.{Table, Conditions}
+use Rattle.grammar.specs.Operator.{Table, Permitted}
 use Rattle.grammar.specs.Declaration.{declareAll, declarations}
 use Rattle.grammar.specs.Span.{Item, single, pair, scope, items, itemTokens}
 use Rattle.grammar.specs.SpanTree.{SpanTree, missing, operand, apply, yield}
@@ -33,7 +33,7 @@ use Rattle.grammar.specs.Bytes.{All}
 use Rattle.grammar.proofs.Lists.{all-left, all-right, all-append}
 use Rattle.grammar.proofs.Climb.{climb-sound}
 use Rattle.grammar.proofs.Declarations.{enter-sound}
-use Rattle.grammar.proofs.ConditionsTest.{conditions-sound}
+use Rattle.grammar.proofs.OverloadingTest.{permitted-sound}
 use Rattle.grammar.proofs.ItemLists.{CheckedBy}
 use Rattle.grammar.proofs.Hung.{underBracket-some, underBlock-some, underOperator-some}
 use Rattle.grammar.proofs.TextSound.{Nested, Inside, inside-items, known-items, pair-within, scope-within}
@@ -201,12 +201,12 @@ firstWithout-some (s ∷ ss) o e = without-some s ss o (firstWithout-some ss o) 
 
 -- The operators of every span of a text past checks 6 to 10 and 17 meet the four conditions.
 abbrev pub LawfulSpan : Span → Type 0
-LawfulSpan s = Conditions (s .table)
+LawfulSpan s = Permitted (s .table)
 
 module _ (below : Table → Option ℕ → ℕ → List Token → List Span) (j : ℕ)
-    (lawful : (T : Table) (o : Option ℕ) (i n : ℕ) (ts : List Token) → Conditions T → Nested ts → length ts < j
+    (lawful : (T : Table) (o : Option ℕ) (i n : ℕ) (ts : List Token) → Permitted T → Nested ts → length ts < j
     → checkBlocks j T n ts ≡ passed tt → All LawfulSpan (below T o i ts)) where
-  itemSpans-lawful : (T : Table) (i : ℕ) (x : Item) → Conditions T → Inside j x × CheckedBy (checkBlocks j) T x → All LawfulSpan (itemSpans below T i x)
+  itemSpans-lawful : (T : Table) (i : ℕ) (x : Item) → Permitted T → Inside j x × CheckedBy (checkBlocks j) T x → All LawfulSpan (itemSpans below T i x)
   unfolding itemSpans bodyTable
   itemSpans-lawful T i (single t) c k = tt
   itemSpans-lawful T i (pair ts) c k = lawful T (some i) (suc i) (k .1 .0) ts c (k .0 .0) (pair-within j ts (k .0 .1)) (k .1 .1)
@@ -214,10 +214,10 @@ module _ (below : Table → Option ℕ → ℕ → List Token → List Span) (j 
       let g = enter-sound T (k .1 .0) ds (k .1 .1) (k .1 .3) in
       let e : (k .1 .1) ≡ declareAll T (declarations ds) = g .2 in
       lawful (declareAll T (declarations ds)) (some (suc (i + length ds))) (suc (suc (i + length ds))) (k .1 .2) ts
-      (rw e at (conditions-sound (k .1 .1) (g .3))) (k .0 .0 .1) (scope-within j ds ts (k .0 .1)) (rw e at (k .1 .4))
+      (rw e at (permitted-sound (k .1 .1) (g .3))) (k .0 .0 .1) (scope-within j ds ts (k .0 .1)) (rw e at (k .1 .4))
 
   allItemSpans-lawful :
-      (T : Table) (i : ℕ) (xs : List Item) → Conditions T → All (λ x. Inside j x × CheckedBy (checkBlocks j) T x) xs
+      (T : Table) (i : ℕ) (xs : List Item) → Permitted T → All (λ x. Inside j x × CheckedBy (checkBlocks j) T x) xs
       → All LawfulSpan (allItemSpans below T i xs)
   unfolding allItemSpans
   allItemSpans-lawful T i [] c k = tt
@@ -227,7 +227,7 @@ module _ (below : Table → Option ℕ → ℕ → List Token → List Span) (j 
 
 pub spans-lawful :
     (k j : ℕ) (T : Table) (o : Option ℕ) (i n : ℕ) (ts : List Token)
-    → Conditions T → Nested ts → length ts < j → checkBlocks j T n ts ≡ passed tt → All LawfulSpan (spans k T o i ts)
+    → Permitted T → Nested ts → length ts < j → checkBlocks j T n ts ≡ passed tt → All LawfulSpan (spans k T o i ts)
 unfolding spans
 spans-lawful zero j T o i n ts c h b e = tt
 spans-lawful (suc k) zero T o i n ts c h b e = absurd (omega arith)

@@ -20,7 +20,7 @@ use Rattle.grammar.proofs.Hung.{underBracket-some, underBlock-some, und
 use Rattle.grammar.proofs.Climb.{climb-sound}
 use Rattle.grammar.proofs.ItemsNested.{Passes, ItemNested, append-tokens, items-tokens, items-nested}
 use Rattle.grammar.proofs.Declarations.{enter-sound}
-use Rattle.grammar.proofs.ConditionsTest.{conditions-sound}
+use Rattle.grammar.proofs.OverloadingTest.{permitted-sound}
 use Rattle.grammar.proofs.Lists.{all-left, all-right, all-both}
 use Rattle.grammar.proofs.ItemLists.{all-within, CheckedBy, checkItems-passed}
 use Rattle.grammar.proofs.Logic.{impossible}
@@ -94,7 +94,7 @@ hung-block T i ds ts U u n h =
     let w : U ≡ declareAll T (declarations ds) = g .2 in (
       rw (e, d),
       rw (e, d) (sym (append-nil (structure keywordLet ∷ ds ++ structure keywordIn ∷ ts ++ structure keywordEnd ∷ []))),
-      (g .1, rw w at (conditions-sound U (g .3)), rw w at (h .outer), rw w at (h .inner)),
+      (g .1, rw w at (permitted-sound U (g .3)), rw w at (h .outer), rw w at (h .inner)),
     )
 
 hung-node : (T : Table) (l r : SpanTree) (m : Bytes) (t u : Tree) → Hung T l t → Hung T r u → Hung T (apply l m r) (node t m u)

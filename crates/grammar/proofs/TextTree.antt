@@ -8,14 +8,14 @@ use native.Mathlib.Omega.{arith}
 use lib.ListN.{length, length-append}
 use Rattle.grammar.specs.Bytes.{Bytes}
 use Rattle.grammar.specs.Token.{atom, structure, Token, symbol, closing, keywordIn, keywordEnd}
-use Rattle.grammar.specs.Operator.{Table, Conditions}
+use Rattle.grammar.specs.Operator.{Table, Permitted}
 use Rattle.grammar.specs.Declaration.{Declaration, declareAll, declarations, allTokens}
 use Rattle.grammar.specs.Span.{items}
 use Rattle.grammar.specs.Tree.{Tree, nothing, leaf, bracket, block, node, flat, spanTree, SpanOk}
 use Rattle.grammar.specs.Climb.{climb}
 use Rattle.grammar.specs.Blocks.{bodyTable, underBracket, underBlock, underOperator, hangItem, hang, hangFound, treeIn, treeOf}
 use Rattle.grammar.proofs.CheckedTrees.{InnerChecked, IsCheckedTree}
-use Rattle.grammar.proofs.Unambiguous.{conditions-unambiguous}
+use Rattle.grammar.proofs.Unambiguous.{permitted-unambiguous}
 use Rattle.grammar.proofs.ClimbComplete.{climb-complete}
 use Rattle.grammar.proofs.Items.{items-flat}
 use Rattle.grammar.proofs.Declarations.{declarations-of}
@@ -44,8 +44,8 @@ right-shorter l m r k h = omega (arith, length-append (flat l) (atom (symbol m) 
 
 -- If `inner` finds the tree of every shorter text, hanging its trees under the span's own tree gives the tree back.
 module _ (inner : Table → List Token → Option Tree) (k : ℕ)
-    (finds : (T : Table) (t : Tree) → Conditions T → SpanOk T t → InnerChecked T t → length (flat t) < k → inner T (flat t) ≡ some t) where
-  hang-complete : (T : Table) → Conditions T → (t : Tree) → InnerChecked T t → length (flat t) ≤ k → hang inner T (spanTree t) ≡ some t
+    (finds : (T : Table) (t : Tree) → Permitted T → SpanOk T t → InnerChecked T t → length (flat t) < k → inner T (flat t) ≡ some t) where
+  hang-complete : (T : Table) → Permitted T → (t : Tree) → InnerChecked T t → length (flat t) ≤ k → hang inner T (spanTree t) ≡ some t
   unfolding hang hangItem spanTree underBracket underBlock underOperator bodyTable
   hang-complete T c nothing h n = refl
   hang-complete T c (leaf t) h n = refl
@@ -58,16 +58,16 @@ module _ (inner : Table → List Token → Option Tree) (k : ℕ)
 
 -- The search finds every tree.
 pub treeIn-complete :
-    (k : ℕ) (T : Table) (t : Tree) → Conditions T → SpanOk T t → InnerChecked T t → length (flat t) < k → treeIn k T (flat t) ≡ some t
+    (k : ℕ) (T : Table) (t : Tree) → Permitted T → SpanOk T t → InnerChecked T t → length (flat t) < k → treeIn k T (flat t) ≡ some t
 unfolding treeIn hangFound
 treeIn-complete zero T t c s h n = absurd (omega arith)
 treeIn-complete (suc k) T t c s h n =
     let e : climb T (items (flat t)) ≡ some (spanTree t) =
-    climb-complete T (conditions-unambiguous T c) (items (flat t)) (spanTree t)
+    climb-complete T (permitted-unambiguous T c) (items (flat t)) (spanTree t)
     (record { yields = sym (items-flat t); admitted = s .0; there = s .1 }) in
     ap (hangFound (treeIn k) T) e ∙ hang-complete (treeIn k) k (treeIn-complete k) T c t h (omega arith)
 
-pub treeOf-complete : (T : Table) → Conditions T → (ts : List Token) (t : Tree) → IsCheckedTree T ts t → treeOf T ts ≡ some t
+pub treeOf-complete : (T : Table) → Permitted T → (ts : List Token) (t : Tree) → IsCheckedTree T ts t → treeOf T ts ≡ some t
 unfolding treeOf
 treeOf-complete T c ts t h =
     rw (← (h .tokens)) (treeIn-complete (suc (length (flat t))) T t c (h .outer) (h .inner) (omega arith))

@@ -15,6 +15,7 @@ use Rattle.grammar.specs.Outcome.{Outcome, refused, passed}
 use Rattle.grammar.specs.Scan.{Placed, run, Front, nothing, wrong, taken, front, before, scan}
 use Rattle.grammar.specs.Answer.{tokensOf, startsOf, offsetOf}
 use Rattle.grammar.specs.Fault.{mostTokens, TokenFault, judged, counted}
+use Rattle.grammar.proofs.Logic.{below}
 use Rattle.grammar.proofs.Runs.{run-append, ran}
 use Rattle.grammar.proofs.Taken.{Begins, Told, front-told}
 use Rattle.grammar.proofs.Scanned.{behindBlanks, judged-first, counted-last, scan-end, scan-next}
@@ -231,3 +232,22 @@ scanned-exactly text ts = (
   )),
   (λ (r, l). scan-spells r mostTokens 0 l),
 )
+
+-- Every number of a token has a place: beyond the last token it is the text's length.
+take-beyond : (ts : List Token) (i : ℕ) → length ts ≤ i → take i ts ≡ take (length ts) ts
+take-beyond [] zero h = refl
+take-beyond [] (suc i) h = refl
+take-beyond (t ∷ ts) zero h = absurd (omega arith)
+take-beyond (t ∷ ts) (suc i) h = ap (_∷_ t) (take-beyond ts i (omega arith))
+
+pub token-somewhere : (text : Bytes) (ts : List Token) → Spells text ts → length ts ≤ mostTokens → (i : ℕ) → (p : ℕ) × TokenAt text ts i p
+token-somewhere text ts r l i = below (length ts) i (λ h. subst Somewhere (sym (take-beyond ts i (omega arith))) (up-to (length ts) (omega arith))) (up-to i)
+  where
+    Somewhere : List Token → Type 0
+    Somewhere us = (p : ℕ) × ((s : Bytes) × GoesOn text us p s)
+
+    up-to : (k : ℕ) → k ≤ length ts → Somewhere (take k ts)
+    up-to k h =
+        let (ps, e, q) = scanned-exactly text ts .1 (r, l) in
+        let p : ℕ = offsetOf text ps k in
+        (p, subst (λ us. TokenAt text us k p) q (token-at text ps e k p (omega (arith, ap length q, length-tokens ps)) .1 refl))

@@ -6,7 +6,7 @@ use mathlib.Core.Option.{Option, none, some}
 use Prim.Native.Nat.{ℕ, _≤_}
 use native.Mathlib.Omega.{arith}
 use Rattle.grammar.specs.Bytes.{Bytes}
-use Rattle.grammar.specs.Operator.{Prefix, Infix, Postfix, Associativity, left, right, non, Role, Table, role, Conditions}
+use Rattle.grammar.specs.Operator.{Prefix, Infix, Postfix, Associativity, left, right, non, Role, Table, role, Conditions, Apart, Permitted, apart, conditions}
 use Rattle.grammar.specs.SpanTree.{isRight}
 use Rattle.grammar.specs.Climb.{firstRole, leftRole}
 use Rattle.grammar.proofs.Logic.{clash, impossible}
@@ -45,7 +45,7 @@ module _ (T : Table) (h : Conditions T) where
       go none e = h n .onePrecedence Prefix Postfix c d g (rw e at k)
       go (some a) e = h n .onePrecedence Prefix Infix c d g (e ∙ rw e at k)
 
-  pub conditions-unambiguous : Unambiguous T
+  conditions-unambiguous : Unambiguous T
   conditions-unambiguous =
       record {
         onePrecedence = λ m a b e f. h m .onePrecedence Infix Postfix a b e f;
@@ -56,7 +56,10 @@ module _ (T : Table) (h : Conditions T) where
       }
 
 -- So is one in which no operator is both infix and postfix (02, §2).
-pub apart-unambiguous :
-    (T : Table) → ((m : Bytes) (a b : Role) → role T m Infix ≡ some a → role T m Postfix ≡ some b → ⊥) → Unambiguous T
+apart-unambiguous : (T : Table) → Apart T → Unambiguous T
 apart-unambiguous T h =
     record { onePrecedence = λ m a b e f. absurd (h m a b e f); settled = λ m n a b c d e f g k s. absurd (h m a b e f) }
+
+pub permitted-unambiguous : (T : Table) → Permitted T → Unambiguous T
+permitted-unambiguous T (apart h) = apart-unambiguous T h
+permitted-unambiguous T (conditions h) = conditions-unambiguous T h

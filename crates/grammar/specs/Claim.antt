@@ -8,14 +8,14 @@ use lib.ListN.{length}
 use Rattle.grammar.specs.Bytes.{Bytes, All}
 use Rattle.grammar.specs.Token.{keywordLet, keywordIn, structure, characters, spelling, Token}
 use Rattle.grammar.specs.Spelling.{Spells, TokenAt}
-use Rattle.grammar.specs.Declaration.{Declaration, allTokens, startTable, areDeclarations, isReserved, Free, declareAll}
+use Rattle.grammar.specs.Declaration.{Declaration, allTokens, startTable, areDeclarations, Free, declareAll}
 use Rattle.grammar.specs.SpanTree.{SpanTree, IsSpanTree}
 use Rattle.grammar.specs.Tree.{Tree, nothing, leaf, bracket, block, node, IsTree, flat, depth}
 use Rattle.grammar.specs.Blank.{Blank, blankRule}
 use Rattle.grammar.specs.Canonical.{canonical, canonicalText, NoSpare}
-use Rattle.grammar.specs.Operator.{Conditions, Table}
+use Rattle.grammar.specs.Operator.{Permitted, Table}
 use Rattle.grammar.specs.Spans.{startOf, Span, SpanOf}
-use Rattle.grammar.specs.Fault.{PastReserving, Past}
+use Rattle.grammar.specs.Fault.{Rules, current, PastUnder, Past}
 use Rattle.grammar.specs.Abstract.{Agree}
 
 -- What each node stands for, in the order of the table: the characters of a name or number, the operator; none for a bracket or block.
@@ -40,14 +40,14 @@ pub record FromLetToIn (ds : List Declaration) (s : Bytes) : Type 0 where
   pub ends : (x : Bytes) × (s ≡ x ++ spelling (structure keywordIn))
   pub spells : Spells s (structure keywordLet ∷ allTokens ds ++ structure keywordIn ∷ [])
 
--- Each block of a tree has allowed declarations, none of a reserved operator, and its operators meet the four conditions. (Not part of what
+-- Each block of a tree has allowed declarations, none of a reserved operator, and its operators keep the overloading rule. (Not part of what
 -- a tree is: of a text past checks 1 to 10 and 17 it holds of every tree.)
 abbrev pub BlocksLawful : Table → Tree → Type 0
 BlocksLawful T nothing = Unit {0}
 BlocksLawful T (leaf a) = Unit {0}
 BlocksLawful T (bracket t) = BlocksLawful T t
 BlocksLawful T (block ds t) =
-    (areDeclarations ds ≡ true) × All Free ds × Conditions (declareAll T ds) × BlocksLawful (declareAll T ds) t
+    (areDeclarations ds ≡ true) × All Free ds × Permitted (declareAll T ds) × BlocksLawful (declareAll T ds) t
 BlocksLawful T (node l m r) = BlocksLawful T l × BlocksLawful T r
 
 -- A span without a tree.
@@ -77,22 +77,22 @@ pub record EmptyInside (text : Bytes) : Type 0 where
   pub opened : span .opener ≡ some opener
   pub empty : span .contents ≡ []
 
--- `t` is a tree of the text, which is past checks 1 to 10 and, with the operators `reserved` reserved, 17.
-pub record TreeReserving (reserved : Bytes → Bool) (text : Bytes) (t : Tree) : Type 0 where
+-- `t` is a tree of the text, which is past checks 1 to 10 and 17.
+pub record TreeUnder (rules : Rules) (text : Bytes) (t : Tree) : Type 0 where
   pub tokens : List Token
-  pub past : PastReserving reserved text tokens
+  pub past : PastUnder rules text tokens
   pub isTree : IsTree startTable tokens t
 
 abbrev pub TreeOf : Bytes → Tree → Type 0
-TreeOf = TreeReserving isReserved
+TreeOf = TreeUnder current
 
 -- What a text reads as: its tree. 02, §7: "A text that is empty or all blanks, past check 1, is now read".
-pub data ReadingReserving (reserved : Bytes → Bool) (text : Bytes) : Tree → Type 0 where
-  ofTree : {t : Tree} → TreeReserving reserved text t → ReadingReserving reserved text t
-  ofBlank : Blank text → ReadingReserving reserved text blankRule
+pub data ReadingUnder (rules : Rules) (text : Bytes) : Tree → Type 0 where
+  ofTree : {t : Tree} → TreeUnder rules text t → ReadingUnder rules text t
+  ofBlank : Blank text → ReadingUnder rules text blankRule
 
 abbrev pub ReadingOf : Bytes → Tree → Type 0
-ReadingOf = ReadingReserving isReserved
+ReadingOf = ReadingUnder current
 
 -- The tree and the bytes of the canonical text of a rule that reads as `t`.
 abbrev pub canonicalTree : Tree → Tree

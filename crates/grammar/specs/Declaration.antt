@@ -22,7 +22,7 @@ use Rattle.grammar.specs.Operator.{
   Table,
   declareRole,
   removeRoles,
-  lawfulTable,
+  permitted,
 }
 use Rattle.grammar.specs.Outcome.{Outcome, refused, passed}
 
@@ -222,7 +222,7 @@ hasRoom T d = leb (length (declare T d)) mostOperators
 
 -- Check 10, at the `in` with token number `i`.
 unfoldable pub checkedAt : ℕ → Table → Outcome Table
-checkedAt i T = elim (lawfulTable T) [ true ↦ passed T | false ↦ refused 10 i ]
+checkedAt i T = elim (permitted T) [ true ↦ passed T | false ↦ refused 10 i ]
 
 -- The operators in force behind the declarations `ts`, the first of which is token number `i`.
 -- "each declaration complete through its `;` before it takes effect (8, then 9), then 10", and "17 .. for each complete declaration after 8

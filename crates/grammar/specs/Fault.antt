@@ -1,6 +1,6 @@
 -- Document 01, "Thirteen ways to say no", rows 1 to 10, and row 17 of document 02, §9: which row holds of a text, and at which place. "A
 -- refusal comes exactly when its row holds and none earlier in the order does." Nothing here says how a text is checked.
--- Which operators are reserved is a parameter where §9 matters. `Fault` is that of the three; with none reserved it is document 01's alone.
+-- What §2 and §9 changed is a parameter, `Rules`, so that what was before can be said too. `Fault` goes by the rules as they are now.
 use mathlib.Core.Path.{_≡_}
 use mathlib.Core.Bool.{Bool, true, false, _||_}
 use mathlib.Core.Logic.{_⊎_}
@@ -12,7 +12,7 @@ use Rattle.grammar.specs.Token.{inNumber, longestName, longestNumber, sy
 use Rattle.grammar.specs.Token.{spelling, isWord, isSign, isNumber, isToken}
 use Rattle.grammar.specs.Spelling.{continues, Stops, Splits, Spells, GoesOn, TokenAt}
 use Rattle.grammar.specs.Open.{Open, Fits, deepest, OpenAfter}
-use Rattle.grammar.specs.Operator.{Table, Conditions}
+use Rattle.grammar.specs.Operator.{Table, Conditions, Permitted}
 use Rattle.grammar.specs.Declaration.{
   Declaration,
   declare,
@@ -27,6 +27,11 @@ use Rattle.grammar.specs.Declaration.{
   mostOperators,
 }
 use Rattle.grammar.specs.Spans.{BlockOf}
+
+-- Which operators are reserved (02, §9), and which operators may be in force at `in` (02, §2).
+pub record Rules : Type 1 where
+  pub reserved : Bytes → Bool
+  pub overloading : Table → Type 0
 
 -- "16,384 bytes, 1,024 tokens .. pass; one more is refused."
 abbrev pub longestText : ℕ
@@ -84,37 +89,37 @@ pub record FirstUnfit (ts : List Token) (k : ℕ) : Type 0 where
 
 -- A fault of a declaration part `ts` under the operators `T`, with the number of a token of it. "each declaration complete through its
 -- `;` before it takes effect (8, then 9), then 10"
-pub data DeclarationFault (reserved : Bytes → Bool) (T : Table) (ts : List Token) : ℕ → ℕ → Type 0 where
+pub data DeclarationFault (rules : Rules) (T : Table) (ts : List Token) : ℕ → ℕ → Type 0 where
   -- "8: declaration malformed, level outside 1 to 1200: first unfit token". Behind the last token stands the `in`.
   malformed :
-      (ds : List Declaration) (t : Token) (rest : List Token) {U : Table} {k : ℕ} → ts ≡ allTokens ds ++ t ∷ rest → TakeEffect reserved T ds U
-      → FirstUnfit (t ∷ rest ++ structure keywordIn ∷ []) k → DeclarationFault reserved T ts 8 (length (allTokens ds) + k)
+      (ds : List Declaration) (t : Token) (rest : List Token) {U : Table} {k : ℕ} → ts ≡ allTokens ds ++ t ∷ rest → TakeEffect (rules .reserved) T ds U
+      → FirstUnfit (t ∷ rest ++ structure keywordIn ∷ []) k → DeclarationFault rules T ts 8 (length (allTokens ds) + k)
   -- 02, §9: "17, place the mark; for each complete declaration after 8 and before 9"
   namesReserved :
       (ds : List Declaration) (d : Declaration) (rest : List Token) {U : Table} → ts ≡ allTokens ds ++ (declarationTokens d ++ rest)
-      → TakeEffect reserved T ds U → isDeclaration d ≡ true → reserved (operatorOf d) ≡ true
-      → DeclarationFault reserved T ts 17 (length (allTokens ds) + operatorPlace d)
+      → TakeEffect (rules .reserved) T ds U → isDeclaration d ≡ true → (rules .reserved) (operatorOf d) ≡ true
+      → DeclarationFault rules T ts 17 (length (allTokens ds) + operatorPlace d)
   -- "9: 65th mark in force: the mark"
   overfull :
       (ds : List Declaration) (d : Declaration) (rest : List Token) {U : Table} → ts ≡ allTokens ds ++ (declarationTokens d ++ rest)
-      → TakeEffect reserved T ds U → isDeclaration d ≡ true → reserved (operatorOf d) ≡ false → mostOperators < length (declare U d)
-      → DeclarationFault reserved T ts 9 (length (allTokens ds) + operatorPlace d)
+      → TakeEffect (rules .reserved) T ds U → isDeclaration d ≡ true → (rules .reserved) (operatorOf d) ≡ false → mostOperators < length (declare U d)
+      → DeclarationFault rules T ts 9 (length (allTokens ds) + operatorPlace d)
   -- "10: overloading rule broken: `in`"
   unlawful :
-      (ds : List Declaration) {U : Table} → ts ≡ allTokens ds → TakeEffect reserved T ds U → (Conditions U → ⊥)
-      → DeclarationFault reserved T ts 10 (length ts)
+      (ds : List Declaration) {U : Table} → ts ≡ allTokens ds → TakeEffect (rules .reserved) T ds U → (rules .overloading U → ⊥)
+      → DeclarationFault rules T ts 10 (length ts)
 
 -- "then blocks by their `let`": the fault of the first block that has one, with the number of a token of the text.
-pub record BlockFault (reserved : Bytes → Bool) (ts : List Token) (n i : ℕ) : Type 0 where
+pub record BlockFault (rules : Rules) (ts : List Token) (n i : ℕ) : Type 0 where
   pub table : Table
   pub number : ℕ
   pub part : List Token
   pub at : ℕ
   pub block : BlockOf ts table number part
-  pub fault : DeclarationFault reserved table part n at
+  pub fault : DeclarationFault rules table part n at
   pub place : i ≡ suc (number + at)
   pub first :
-      (T : Table) (j : ℕ) (ds : List Token) (m k : ℕ) → BlockOf ts T j ds → DeclarationFault reserved T ds m k → number ≤ j
+      (T : Table) (j : ℕ) (ds : List Token) (m k : ℕ) → BlockOf ts T j ds → DeclarationFault rules T ds m k → number ≤ j
 
 -- Of a text nothing of rows 1 to 5 holds, and its tokens are `ts`.
 pub record HasTokens (text : Bytes) (ts : List Token) : Type 0 where
@@ -122,16 +127,16 @@ pub record HasTokens (text : Bytes) (ts : List Token) : Type 0 where
   pub spelled : Spells text ts
   pub few : length ts ≤ mostTokens
 
--- Row number `n` holds of the text at the place `p`, and none earlier in the order does; the operators `reserved` are reserved.
-pub data FaultReserving (reserved : Bytes → Bool) (text : Bytes) : ℕ → ℕ → Type 0 where
+-- Row number `n` holds of the text at the place `p`, and none earlier in the order does.
+pub data FaultUnder (rules : Rules) (text : Bytes) : ℕ → ℕ → Type 0 where
   -- "1: text over 16,384 bytes: 16384"
-  tooLong : longestText < length text → FaultReserving reserved text 1 longestText
-  inTokens : {n p : ℕ} → length text ≤ longestText → TokenFault text n p → FaultReserving reserved text n p
+  tooLong : longestText < length text → FaultUnder rules text 1 longestText
+  inTokens : {n p : ℕ} → length text ≤ longestText → TokenFault text n p → FaultUnder rules text n p
   inNesting :
-      {ts : List Token} {n i p : ℕ} → HasTokens text ts → NestingFault ts n i → TokenAt text ts i p → FaultReserving reserved text n p
+      {ts : List Token} {n i p : ℕ} → HasTokens text ts → NestingFault ts n i → TokenAt text ts i p → FaultUnder rules text n p
   inBlocks :
-      {ts : List Token} {n i p : ℕ} → HasTokens text ts → OpenAfter ts [] → BlockFault reserved ts n i → TokenAt text ts i p
-      → FaultReserving reserved text n p
+      {ts : List Token} {n i p : ℕ} → HasTokens text ts → OpenAfter ts [] → BlockFault rules ts n i → TokenAt text ts i p
+      → FaultUnder rules text n p
 
 -- The rows above: those in front of 11 in the order of refusals.
 abbrev pub BeforeEleven : ℕ → Type 0
@@ -139,20 +144,25 @@ BeforeEleven n = ((1 ≤ n) × (n ≤ 10)) ⊎ (n ≡ 17)
 
 -- "a text is past checks 1 to 10 when nothing that comes before 11 in the order of refusals holds of it", so 17 is among
 -- them: the text and its tokens.
-pub record PastReserving (reserved : Bytes → Bool) (text : Bytes) (ts : List Token) : Type 0 where
+pub record PastUnder (rules : Rules) (text : Bytes) (ts : List Token) : Type 0 where
   pub spelled : Spells text ts
-  pub faultless : (n p : ℕ) → FaultReserving reserved text n p → ⊥
+  pub faultless : (n p : ℕ) → FaultUnder rules text n p → ⊥
 
--- Document 01 alone reserves no operator.
-abbrev pub noneReserved : Bytes → Bool
-noneReserved m = false
+-- The rules as they are now, and as they would be without §9 and without §2: no operator reserved; the four conditions for every table.
+abbrev pub current : Rules
+current = record { reserved = isReserved; overloading = Permitted }
 
--- 02, §9 reserves three.
+abbrev pub withoutReserving : Rules
+withoutReserving = record { reserved = λ m. false; overloading = Permitted }
+
+abbrev pub withFourConditions : Rules
+withFourConditions = record { reserved = isReserved; overloading = Conditions }
+
 abbrev pub Fault : Bytes → ℕ → ℕ → Type 0
-Fault = FaultReserving isReserved
+Fault = FaultUnder current
 
 abbrev pub Past : Bytes → List Token → Type 0
-Past = PastReserving isReserved
+Past = PastUnder current
 
 -- A declaration of the text: it stands complete in the declaration part of a block, behind nothing but declarations.
 pub record Declares (text : Bytes) (d : Declaration) : Type 0 where
@@ -170,3 +180,7 @@ pub record Declares (text : Bytes) (d : Declaration) : Type 0 where
 -- No declaration of the text names a reserved operator.
 abbrev pub Unreserved : Bytes → Type 0
 Unreserved text = (d : Declaration) → Declares text d → Free d
+
+-- The four conditions, asked of every table, do not refuse the text.
+abbrev pub Conditioned : Bytes → Type 0
+Conditioned text = (p : ℕ) → FaultUnder withFourConditions text 10 p → ⊥

@@ -1,6 +1,6 @@
--- Document 01, "Marks and blocks": operators, their roles, the operators in force, and the four conditions on them.
+-- Document 01, "Marks and blocks": operators, their roles, the operators in force, and the overloading rule, which document 02, §2, widens.
 use mathlib.Core.Path.{_≡_}
-use mathlib.Core.Bool.{Bool, true, false, _&&_, _||_}
+use mathlib.Core.Bool.{Bool, true, false, _&&_, _||_, not}
 use mathlib.Core.List.{List, [], _∷_}
 use mathlib.Core.Option.{Option, none, some}
 use Prim.Native.Nat.{ℕ}
@@ -118,6 +118,16 @@ pub record Lawful (r : Roles) : Type 0 where
 abbrev pub Conditions : Table → Type 0
 Conditions T = (m : Bytes) → Lawful (role T m)
 
+-- 02, §2: "a table where no mark in force has both an infix and a postfix role"
+abbrev pub Apart : Table → Type 0
+Apart T = (m : Bytes) (a b : Role) → role T m Infix ≡ some a → role T m Postfix ≡ some b → ⊥
+
+-- The overloading rule: in such a table "roles of one mark may differ in level and side without condition. .. In every other table the four
+-- conditions hold as they did."
+pub data Permitted (T : Table) : Type 0 where
+  apart : Apart T → Permitted T
+  conditions : Conditions T → Permitted T
+
 -- The four conditions as a test.
 unfoldable pub onePrecedenceTest : Option Role → Option Role → Bool
 onePrecedenceTest none none = true
@@ -149,9 +159,18 @@ lawful r =
     onePrecedenceTest (r Prefix) (r Infix) && onePrecedenceTest (r Infix) (r Postfix) && onePrecedenceTest (r Prefix) (r Postfix)
     && lawfulAssociativities (r Prefix) (r Infix) (r Postfix)
 
-unfoldable pub lawfulTable : Table → Bool
-lawfulTable [] = true
-lawfulTable (o ∷ T) = elim (lawful (o .roles)) [ true ↦ lawfulTable T | false ↦ false ]
+-- Not both an infix and a postfix role.
+unfoldable pub isApart : Roles → Bool
+isApart r = not (isSome (r Infix) && isSome (r Postfix))
+
+-- A test that the roles of every operator pass.
+unfoldable pub everyOperator : (Roles → Bool) → Table → Bool
+everyOperator q [] = true
+everyOperator q (o ∷ T) = elim (q (o .roles)) [ true ↦ everyOperator q T | false ↦ false ]
+
+-- The overloading rule as a test.
+unfoldable pub permitted : Table → Bool
+permitted T = everyOperator isApart T || everyOperator lawful T
 
 -- An operator of that name is listed.
 unfoldable pub listed : Bytes → Table → Bool

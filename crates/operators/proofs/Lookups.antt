@@ -1,7 +1,8 @@
--- For callers: what the search of a name says of the operators in force, and what a declaration does to their number and to the conditions.
+-- For callers: what the search of a name says of the operators in force, and what a declaration does to their number and to the overloading rule.
 -- The search and the operators in force both take the first entry of the name: by induction on the number of entries.
 use mathlib.Core.Path.{_≡_, refl, sym, ap, fun-ext, _∙_}
-use mathlib.Core.Bool.{Bool, true, false}
+use mathlib.Core.Bool.{Bool, true, false, or-true}
+use mathlib.Core.Logic.{⊎-elim}
 use mathlib.Core.List.{List, [], _∷_}
 use mathlib.Core.Option.{none}
 use Prim.Native.Nat.{ℕ, zero, suc, _+_, _<_}
@@ -22,11 +23,14 @@ use Rattle.grammar.specs.Operator.{
   removeRoles,
   onePrecedenceTest,
   lawfulAssociativities,
+  isSome,
   lawful,
-  lawfulTable,
+  isApart,
+  everyOperator,
+  permitted,
 }
 use Rattle.grammar.specs.Operator as G
-use Rattle.grammar.proofs.Logic.{impossible, same-eq}
+use Rattle.grammar.proofs.Logic.{impossible, or-cases, same-eq}
 use Rattle.grammar.proofs.Operators.{both}
 use Rattle.rows.specs.Codes.{roleCode, rolesOf, Fit, IsRole, Bounded}
 use Rattle.operators.specs.Entries.{word, nameAt, codedFind, operatorsFrom, tableOf, Sound}
@@ -162,39 +166,63 @@ module _ (text : Bytes) (t : Table) where
       go (At k) e = rw (found-role m e f) (fit-roles _ _ _ (sound .roles k (found-below m e)) f)
       go Nothing e = rw (unfound-role m e f) tt
 
--- One role alone meets the conditions.
+-- One role alone meets the conditions, and is not both.
 alone-lawful : (f : Fixity) (r : Role) (old : Roles) → ((g : Fixity) → old g ≡ none) → lawful (replaced f r old) ≡ true
 unfolding lawful replaced sameFixity onePrecedenceTest lawfulAssociativities
 alone-lawful Prefix r old h = rw (h Infix, h Postfix)
 alone-lawful Infix r old h = rw (h Prefix, h Postfix) (beside-nothing (r .associativity))
 alone-lawful Postfix r old h = rw (h Prefix, h Infix)
 
--- So does every operator where a new one with one role comes ..
-pub declared-lawful :
-    (m : Bytes) (f : Fixity) (r : Role) (T : G.Table) → lawfulTable T ≡ true → ((g : Fixity) → role T m g ≡ none)
-    → lawfulTable (declareRole m f r T) ≡ true
-unfolding declareRole lawfulTable role
-declared-lawful m f r [] e h = rw (alone-lawful f r (λ g. none) (λ g. refl), lawfulTable)
-declared-lawful m f r (o ∷ T) e h =
-    let (p, q) = both (lawful (o .roles)) (lawfulTable T) e in
-    go (same m (o .name)) refl p q (declared-lawful m f r T q)
-  where
-    go :
-        (b : Bool) → same m (o .name) ≡ b → lawful (o .roles) ≡ true → lawfulTable T ≡ true
-        → (((g : Fixity) → role T m g ≡ none) → lawfulTable (declareRole m f r T) ≡ true) → lawfulTable (declareRole m f r (o ∷ T)) ≡ true
-    go true d p q u = rw (d, declareRole, alone-lawful f r (o .roles) (λ g. rw (d, role) at (h g)), lawfulTable) q
-    go false d p q u = rw (d, declareRole, p, lawfulTable) (u (λ g. rw (d, role) at (h g)))
+alone-apart : (f : Fixity) (r : Role) (old : Roles) → ((g : Fixity) → old g ≡ none) → isApart (replaced f r old) ≡ true
+unfolding isApart isSome replaced sameFixity
+alone-apart Prefix r old h = rw (h Infix)
+alone-apart Infix r old h = rw (h Postfix)
+alone-apart Postfix r old h = rw (h Infix)
 
--- .. and where one is cleared.
-pub cleared-lawful : (m : Bytes) (T : G.Table) → lawfulTable T ≡ true → lawfulTable (removeRoles m T) ≡ true
-unfolding removeRoles lawfulTable
-cleared-lawful m [] e = refl
-cleared-lawful m (o ∷ T) e =
-    let (p, q) = both (lawful (o .roles)) (lawfulTable T) e in
-    go (same m (o .name)) refl p (cleared-lawful m T q)
-  where
-    go :
-        (b : Bool) → same m (o .name) ≡ b → lawful (o .roles) ≡ true → lawfulTable (removeRoles m T) ≡ true
-        → lawfulTable (removeRoles m (o ∷ T)) ≡ true
-    go true d p u = rw (d, removeRoles) u
-    go false d p u = rw (d, removeRoles, p, lawfulTable) u
+-- A test that one role alone passes is passed still where a new operator with one role comes ..
+module _ (q : Roles → Bool) where
+  declared-every :
+      ((f : Fixity) (r : Role) (old : Roles) → ((g : Fixity) → old g ≡ none) → q (replaced f r old) ≡ true)
+      → (m : Bytes) (f : Fixity) (r : Role) (T : G.Table) → everyOperator q T ≡ true → ((g : Fixity) → role T m g ≡ none)
+      → everyOperator q (declareRole m f r T) ≡ true
+  unfolding declareRole everyOperator role
+  declared-every alone m f r [] e h = rw (alone f r (λ g. none) (λ g. refl), everyOperator)
+  declared-every alone m f r (o ∷ T) e h =
+      let (p, s) = both (q (o .roles)) (everyOperator q T) e in
+      go (same m (o .name)) refl p s (declared-every alone m f r T s)
+    where
+      go :
+          (b : Bool) → same m (o .name) ≡ b → q (o .roles) ≡ true → everyOperator q T ≡ true
+          → (((g : Fixity) → role T m g ≡ none) → everyOperator q (declareRole m f r T) ≡ true) → everyOperator q (declareRole m f r (o ∷ T)) ≡ true
+      go true d p s u = rw (d, declareRole, alone f r (o .roles) (λ g. rw (d, role) at (h g)), everyOperator) s
+      go false d p s u = rw (d, declareRole, p, everyOperator) (u (λ g. rw (d, role) at (h g)))
+
+  -- .. and where one is cleared.
+  cleared-every : (m : Bytes) (T : G.Table) → everyOperator q T ≡ true → everyOperator q (removeRoles m T) ≡ true
+  unfolding removeRoles everyOperator
+  cleared-every m [] e = refl
+  cleared-every m (o ∷ T) e =
+      let (p, s) = both (q (o .roles)) (everyOperator q T) e in
+      go (same m (o .name)) refl p (cleared-every m T s)
+    where
+      go :
+          (b : Bool) → same m (o .name) ≡ b → q (o .roles) ≡ true → everyOperator q (removeRoles m T) ≡ true
+          → everyOperator q (removeRoles m (o ∷ T)) ≡ true
+      go true d p u = rw (d, removeRoles) u
+      go false d p u = rw (d, removeRoles, p, everyOperator) u
+
+-- So the overloading rule is kept, whichever of its two tests was passed.
+kept :
+    (T U : G.Table) → permitted T ≡ true → (everyOperator isApart T ≡ true → everyOperator isApart U ≡ true)
+    → (everyOperator lawful T ≡ true → everyOperator lawful U ≡ true) → permitted U ≡ true
+unfolding permitted
+kept T U e f g =
+    ⊎-elim (λ h. rw (f h)) (λ h. rw (g h) (or-true (everyOperator isApart U))) (or-cases (everyOperator isApart T) (everyOperator lawful T) e)
+
+pub declared-permitted :
+    (m : Bytes) (f : Fixity) (r : Role) (T : G.Table) → permitted T ≡ true → ((g : Fixity) → role T m g ≡ none) → permitted (declareRole m f r T) ≡ true
+declared-permitted m f r T e h =
+    kept T (declareRole m f r T) e (λ d. declared-every isApart alone-apart m f r T d h) (λ d. declared-every lawful alone-lawful m f r T d h)
+
+pub cleared-permitted : (m : Bytes) (T : G.Table) → permitted T ≡ true → permitted (removeRoles m T) ≡ true
+cleared-permitted m T e = kept T (removeRoles m T) e (cleared-every isApart m T) (cleared-every lawful m T)

@@ -1,4 +1,4 @@
--- Roles by their numbers: what the tests of the four conditions come to as tests of numbers.
+-- Roles by their numbers: what the tests of the overloading rule come to as tests of numbers.
 -- Each law is by cases on where the number lies, or on whether there is a role.
 use mathlib.Core.Path.{_≡_, refl, sym, _∙_}
 use mathlib.Core.Bool.{Bool, true, false, not, and-true, and-false}
@@ -6,7 +6,7 @@ use mathlib.Core.Option.{Option, none, some}
 use Prim.Native.Nat.{ℕ, _≤_, _<_}
 use native.Mathlib.Omega.{arith}
 use lib.Dec.{eqb, ltb, leb}
-use borrow.Author.Tests.{lt-ltb, le-ltb, le-leb, lt-leb, eq-eqb, ne-eqb, not-true, not-false}
+use borrow.Author.Tests.{lt-ltb, le-ltb, le-leb, lt-leb, eqb-true, eqb-false, eq-eqb, ne-eqb, not-true, not-false}
 use Rattle.grammar.specs.Operator.{
   Prefix,
   Infix,
@@ -23,6 +23,8 @@ use Rattle.grammar.specs.Operator.{
   besideInfix,
   lawfulAssociativities,
   lawful,
+  isSome,
+  isApart,
 }
 use Rattle.grammar.specs.Coded.{fixityOf}
 use Rattle.grammar.specs.SpanTree.{rootPrecedence}
@@ -177,3 +179,17 @@ module _ (p i q : ℕ) where
       → lawful (rolesOf p i q) ≡ lawfulAssociativities (roleOf p) (roleOf i) (roleOf q)
   unfolding lawful rolesOf
   one-precedences d e f = rw (d, e, f)
+
+-- There are not both an infix and a postfix role where there is no infix role, or no postfix role.
+module _ (p i q : ℕ) where
+  pub apart-without : i ≡ 0 → isApart (rolesOf p i q) ≡ true
+  unfolding isApart isSome rolesOf
+  apart-without e = rw (no-role i e)
+
+  pub apart-beside : (i ≡ 0 → ⊥) → isApart (rolesOf p i q) ≡ eqb q 0
+  unfolding isApart isSome rolesOf
+  apart-beside d = some-role i d (λ r e. go r e (eqb q 0) refl)
+    where
+      go : (r : Role) → roleOf i ≡ some r → (b : Bool) → eqb q 0 ≡ b → isApart (rolesOf p i q) ≡ b
+      go r e true z = rw (e, no-role q (eqb-true q 0 z))
+      go r e false z = some-role q (eqb-false q 0 z) (λ s f. rw (e, f))

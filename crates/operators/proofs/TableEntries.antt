@@ -1,4 +1,4 @@
--- Laws of a table's words, each for one turn of a loop: the name at an entry, the search of a name, the four conditions.
+-- Laws of a table's words, each for one turn of a loop: the name at an entry, the search of a name, a test of every operator.
 -- They unfold the definitions of `Entries` once.
 use mathlib.Core.Path.{_≡_, refl, sym, ap}
 use mathlib.Core.Bool.{Bool, true, false}
@@ -10,7 +10,7 @@ use lib.ListN.{length, take, drop, length-take, length-drop}
 use borrow.Author.Tests.{lt-ltb, le-ltb}
 use Rattle.grammar.specs.Fault.{longestText}
 use Rattle.grammar.specs.Bytes.{Bytes, same}
-use Rattle.grammar.specs.Operator.{lawful, lawfulTable}
+use Rattle.grammar.specs.Operator.{Roles, Table, isApart, lawful, everyOperator, permitted}
 use Rattle.grammar.proofs.Logic.{below, same-eq}
 use Rattle.rows.specs.Codes.{rolesOf}
 use Rattle.operators.specs.Entries.{word, startNames, startSize, nameIn, nameAt, Stands, codedFind, operatorsFrom}
@@ -74,25 +74,34 @@ module _ (text : Bytes) (W : List ℕ) (name : Bytes) (i n : ℕ) (h : i < n) wh
       let k : n - i ≡ suc (n - (i + 1)) = omega arith in
       rw (k, codedFind, e) (ap (λ j. codedFind text W name j (n - (i + 1))) (sym (add-one i)))
 
--- The four conditions, entry by entry.
-module _ (text W : List ℕ) where
-  pub lawful-all : (n : ℕ) → lawfulTable (operatorsFrom text W 0 n) ≡ lawfulTable (operatorsFrom text W 0 (n - 0))
-  lawful-all n = ap (λ k. lawfulTable (operatorsFrom text W 0 k)) (omega arith)
+-- A test of every operator, entry by entry.
+module _ (q : Roles → Bool) (text W : List ℕ) where
+  pub every-all : (n : ℕ) → everyOperator q (operatorsFrom text W 0 n) ≡ everyOperator q (operatorsFrom text W 0 (n - 0))
+  every-all n = ap (λ k. everyOperator q (operatorsFrom text W 0 k)) (omega arith)
 
-  pub lawful-end : (i n : ℕ) → n ≤ i → lawfulTable (operatorsFrom text W i (n - i)) ≡ true
-  unfolding lawfulTable operatorsFrom
-  lawful-end i n h = let k : n - i ≡ 0 = omega arith in rw (k, operatorsFrom)
+  pub every-end : (i n : ℕ) → n ≤ i → everyOperator q (operatorsFrom text W i (n - i)) ≡ true
+  unfolding everyOperator operatorsFrom
+  every-end i n h = let k : n - i ≡ 0 = omega arith in rw (k, operatorsFrom)
 
   module _ (i n : ℕ) (h : i < n) where
-    pub lawful-not :
-        lawful (rolesOf (word 2 W i) (word 3 W i) (word 4 W i)) ≡ false → lawfulTable (operatorsFrom text W i (n - i)) ≡ false
-    unfolding lawfulTable operatorsFrom
-    lawful-not e = let k : n - i ≡ suc (n - (i + 1)) = omega arith in rw (k, operatorsFrom, e, lawfulTable)
+    pub every-not :
+        q (rolesOf (word 2 W i) (word 3 W i) (word 4 W i)) ≡ false → everyOperator q (operatorsFrom text W i (n - i)) ≡ false
+    unfolding everyOperator operatorsFrom
+    every-not e = let k : n - i ≡ suc (n - (i + 1)) = omega arith in rw (k, operatorsFrom, e, everyOperator)
 
-    pub lawful-next :
-        lawful (rolesOf (word 2 W i) (word 3 W i) (word 4 W i)) ≡ true
-        → lawfulTable (operatorsFrom text W i (n - i)) ≡ lawfulTable (operatorsFrom text W (i + 1) (n - (i + 1)))
-    unfolding lawfulTable operatorsFrom
-    lawful-next e =
+    pub every-next :
+        q (rolesOf (word 2 W i) (word 3 W i) (word 4 W i)) ≡ true
+        → everyOperator q (operatorsFrom text W i (n - i)) ≡ everyOperator q (operatorsFrom text W (i + 1) (n - (i + 1)))
+    unfolding everyOperator operatorsFrom
+    every-next e =
         let k : n - i ≡ suc (n - (i + 1)) = omega arith in
-        rw (k, operatorsFrom, e, lawfulTable) (ap (λ j. lawfulTable (operatorsFrom text W j (n - (i + 1)))) (sym (add-one i)))
+        rw (k, operatorsFrom, e, everyOperator) (ap (λ j. everyOperator q (operatorsFrom text W j (n - (i + 1)))) (sym (add-one i)))
+
+-- The overloading rule, where one operator has both an infix and a postfix role, and where none has.
+pub by-conditions : (T : Table) → everyOperator isApart T ≡ false → permitted T ≡ everyOperator lawful T
+unfolding permitted
+by-conditions T e = rw e
+
+pub by-apart : (T : Table) → everyOperator isApart T ≡ true → permitted T ≡ true
+unfolding permitted
+by-apart T e = rw e

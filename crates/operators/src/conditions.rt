@@ -1,8 +1,8 @@
-// The four conditions on the roles of one operator.
+// What the overloading rule asks of the roles of one operator: the four conditions, and whether it has both an infix and a postfix role.
 use rows::role;
 ghost use mathlib.Core.Path.{_≡_};
-ghost use Prim.Native.Nat.{_<_};
-ghost use Rattle.grammar.specs.Operator.{left, right, non, onePrecedenceTest, only, lawfulAssociativities, lawful};
+ghost use Prim.Native.Nat.{ℕ, _<_};
+ghost use Rattle.grammar.specs.Operator.{left, right, non, onePrecedenceTest, only, lawfulAssociativities, lawful, isApart};
 ghost use Rattle.rows.specs.Codes.{roleOf, rolesOf, IsRole};
 
 // Whether two roles, where there are two, have one precedence.
@@ -90,4 +90,14 @@ pub fn is_lawful(prefix: u16, infix: u16, postfix: u16) -> bool
         return true;
     }
     stands_beside(infix, prefix, postfix)
+}
+
+// Whether there are not both an infix and a postfix role.
+pub fn is_apart(infix: u16, postfix: u16) -> bool
+    ensures { λ r. ⌜ ((prefix : ℕ) → r ≡ isApart (rolesOf prefix «infix» postfix)) ⌝ }
+{
+    if infix == 0 {
+        return true;
+    }
+    postfix == 0
 }

@@ -6,7 +6,7 @@ ghost use mathlib.Core.Path.{_≡_};
 ghost use mathlib.Core.List.{List};
 ghost use Prim.Native.Nat.{ℕ, _≤_, _<_};
 ghost use Rattle.grammar.specs.Bytes.{Bytes, same};
-ghost use Rattle.grammar.specs.Operator.{lawfulTable};
+ghost use Rattle.grammar.specs.Operator.{lawful, everyOperator, permitted};
 ghost use Rattle.operators.specs.Entries.{word, nameStart, nameSize, nameIn, nameAt, Stands, codedFind, operatorsFrom, tableBy, hashOf, Sound};
 ghost use Rattle.operators.specs.Entries.{Puttable, startedWords, startedHints, Starting, IsName, Quickly, Declarable, Declared, Clearable, Cleared};
 
@@ -290,7 +290,7 @@ impl Table {
 // The four conditions of `count` operators.
 pub fn all_lawful<'a>(words: &'a [u16; 320], count: usize) -> bool
     requires { ⌜ ((text H : List ℕ) × Sound text (tableBy (now words) H count)) ⌝ }
-    ensures { λ r. ⌜ ((text : Bytes) → r ≡ lawfulTable (operatorsFrom text (now (words .entry)) 0 count)) ⌝ }
+    ensures { λ r. ⌜ ((text : Bytes) → r ≡ everyOperator lawful (operatorsFrom text (now (words .entry)) 0 count)) ⌝ }
 {
     let mut i: usize = 0;
     while i < count {
@@ -298,6 +298,21 @@ pub fn all_lawful<'a>(words: &'a [u16; 320], count: usize) -> bool
             return false;
         }
         i += 1;
+    }
+    true
+}
+
+// The overloading rule for `count` operators: where one of them has both an infix and a postfix role, the four conditions of all.
+pub fn is_permitted<'a>(words: &'a [u16; 320], count: usize) -> bool
+    requires { ⌜ ((text H : List ℕ) × Sound text (tableBy (now words) H count)) ⌝ }
+    ensures { λ r. ⌜ ((text : Bytes) → r ≡ permitted (operatorsFrom text (now (words .entry)) 0 count)) ⌝ }
+{
+    let mut k: usize = 0;
+    while k < count {
+        if !conditions::is_apart(infix(words, k), postfix(words, k)) {
+            return all_lawful(words, count);
+        }
+        k += 1;
     }
     true
 }

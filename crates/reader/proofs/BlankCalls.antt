@@ -7,7 +7,7 @@ use Prim.Native.Nat.{ℕ, _*_}
 use native.Mathlib.Omega.{arith}
 use lib.ListN.{drop}
 use Rattle.grammar.specs.Bytes.{Bytes}
-use Rattle.grammar.specs.Declaration.{isReserved}
+use Rattle.grammar.specs.Fault.{current}
 use Rattle.grammar.specs.Tree.{Tree, flat}
 use Rattle.grammar.specs.Nodes.{count, wordsPerNode}
 use Rattle.grammar.specs.Canonical.{canonical, canonicalText, joinTokens}
@@ -23,7 +23,7 @@ use Rattle.reader.proofs.CanonicalCalls as CanonicalCalls
 -- Of either service: a blank rule fits, what holds of the buffer then says that nothing was written, and of no other text does it say so.
 module _
     {own : ℕ} {Fits : Tree → Type 0} {Holds : List ℕ → ℕ → Tree → Type 0} {text : Bytes} {B B′ : List ℕ} {a : Answer}
-    (right : Right isReserved own Fits Holds text B B′ a) where
+    (right : Right current own Fits Holds text B B′ a) where
   blank-call :
       Fits blankRule → (Holds B′ (a .count) blankRule → (a .count ≡ 0) × (B′ ≡ B))
       → ((t : Tree) → ReadingOf text t → Holds B′ (a .count) t → a .count ≡ 0 → Blank text) → Blank text ↔ ((a ≡ written 0) × (B′ ≡ B))

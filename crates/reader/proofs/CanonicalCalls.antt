@@ -12,10 +12,9 @@ use lib.Seq.{take-append-seam, drop-append-seam}
 use borrow.Author.Tests.{leb-true, le-leb}
 use Rattle.grammar.specs.Bytes.{Bytes}
 use Rattle.grammar.specs.Outcome.{Outcome, refused, passed}
-use Rattle.grammar.specs.Declaration.{isReserved}
 use Rattle.grammar.specs.Tree.{Tree}
 use Rattle.grammar.specs.Abstract.{Agree}
-use Rattle.grammar.specs.Fault.{longestText}
+use Rattle.grammar.specs.Fault.{current, longestText}
 use Rattle.grammar.specs.Claim.{ReadingOf, canonicalTree, canonicalBytes}
 use Rattle.grammar.specs.Answer as G
 use Rattle.grammar.specs.Answer.{Reading, readText, over, readingText, writeInto, canonicalizeInto}
@@ -75,7 +74,7 @@ written text B B′ a h z t i =
     })
 
 -- All that is asked of it.
-pub right : (text : Bytes) (B B′ : List ℕ) (a : Answer) → Canonicalizes text B B′ a → RightCanonical isReserved text B B′ a
+pub right : (text : Bytes) (B B′ : List ℕ) (a : Answer) → Canonicalizes text B B′ a → RightCanonical current text B B′ a
 right text B B′ a h = record { answers = answers text B B′ a h; held = written text B B′ a h }
 
 pub reads-back :

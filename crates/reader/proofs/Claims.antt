@@ -13,20 +13,23 @@ use Prim.Native.Nat.{ℕ, _≤_, _<_}
 use lib.ListN.{length, take}
 use Rattle.grammar.specs.Bytes.{Bytes}
 use Rattle.grammar.specs.Token.{Token, isNumber}
-use Rattle.grammar.specs.Operator.{Fixity, Associativity, Table, role, Conditions}
+use Rattle.grammar.specs.Operator.{Fixity, Associativity, Table, role, Conditions, Permitted, conditions}
 use Rattle.grammar.specs.Declaration.{declares, startTable, isReserved, value}
 use Rattle.grammar.specs.Spans.{Span, SpanOf}
-use Rattle.grammar.specs.SpanTree.{SpanTree, Admitted, root, rootPrecedence, yield}
+use Rattle.grammar.specs.Span.{Item}
+use Rattle.grammar.specs.SpanTree.{SpanTree, IsSpanTree, Admitted, root, rootPrecedence}
 use Rattle.grammar.specs.Tree.{Tree, IsTree}
 use Rattle.grammar.specs.Blank.{Blank}
 use Rattle.grammar.specs.NodePrecedence.{NodePrecedence}
 use Rattle.grammar.specs.Widest.{widest}
 use Rattle.grammar.specs.Abstract.{Agree}
 use Rattle.grammar.specs.Canonical.{strip, stripDeclaration}
-use Rattle.grammar.specs.Fault.{longestText, Fault, Past, noneReserved, Unreserved}
+use Rattle.grammar.specs.Fault.{current, withoutReserving, withFourConditions, longestText, Fault, Past, Unreserved, Conditioned}
 use Rattle.grammar.specs.Claim.{BlocksLawful, FirstWithout, EmptyInside, TreeOf, ReadingOf, canonicalTree, canonicalBytes, Faithful}
 use Rattle.grammar.proofs.Numbers as Numbers
 use Rattle.grammar.proofs.StripDeclarations as StripDeclarations
+use Rattle.grammar.proofs.ClimbComplete.{climb-unique}
+use Rattle.grammar.proofs.Unambiguous.{permitted-unambiguous}
 use Rattle.grammar.proofs.WidestRoot.{root-widest}
 use Rattle.grammar.proofs.Faults as Faults
 use Rattle.grammar.proofs.BlankTexts as BlankTexts
@@ -35,7 +38,7 @@ use Rattle.grammar.proofs.BlankRules as BlankRules
 use Rattle.grammar.proofs.ReservedRoles as ReservedRoles
 use Rattle.reader.specs.declared.Answer.{Answer}
 use Rattle.reader.specs.Answered.{written, Reads, Canonicalizes}
-use Rattle.reader.specs.Demands.{RightAnswer, TableFits, BufferFits, TableHolds, BufferHolds, RightReading, RightCanonical}
+use Rattle.reader.specs.Demands.{RightAnswer, TableFits, BufferFits, TableHolds, BufferHolds, RightReading, RightCanonical, OnlyReading, OnlyCanonical}
 use Rattle.reader.proofs.ReadCalls as ReadCalls
 use Rattle.reader.proofs.CanonicalCalls as CanonicalCalls
 use Rattle.reader.proofs.BlankCalls as BlankCalls
@@ -59,7 +62,7 @@ pub tree-held :
     (text : Bytes) (N N′ : List ℕ) (a : Answer) → Reads text N N′ a → a .number ≡ 0 → (t : Tree) → ReadingOf text t → TableHolds text N N′ (a .count) t
 tree-held = ReadCalls.tree-held
 
--- Every block of it has allowed declarations, none of a reserved operator, and operators that meet the four conditions.
+-- Every block of it has allowed declarations, none of a reserved operator, and operators that keep the overloading rule.
 pub blocks-lawful : (text : Bytes) (t : Tree) → ReadingOf text t → BlocksLawful startTable t
 blocks-lawful = Rules.reading-lawful
 
@@ -85,11 +88,11 @@ canonical-is-read = Rules.canonical-read
 
 -- Demands 1 and 2 settle the answer and every word and byte: whatever else meets them is the same.
 pub read-settled :
-    (text : Bytes) (N N′ N″ : List ℕ) (a b : Answer) → Reads text N N′ a → RightReading isReserved text N N″ b → (a ≡ b) × (N′ ≡ N″)
+    (text : Bytes) (N N′ N″ : List ℕ) (a b : Answer) → Reads text N N′ a → RightReading current text N N″ b → (a ≡ b) × (N′ ≡ N″)
 read-settled = Settled.read-settled
 
 pub canonicalize-settled :
-    (text : Bytes) (B B′ B″ : List ℕ) (a b : Answer) → Canonicalizes text B B′ a → RightCanonical isReserved text B B″ b → (a ≡ b) × (B′ ≡ B″)
+    (text : Bytes) (B B′ B″ : List ℕ) (a b : Answer) → Canonicalizes text B B′ a → RightCanonical current text B B″ b → (a ≡ b) × (B′ ≡ B″)
 canonicalize-settled = Settled.canonicalize-settled
 
 -- Demand 3. Any two trees of one text are the same tree, whatever overloading the table check let through, ..
@@ -112,6 +115,31 @@ pub same-bytes :
     (text other : Bytes) (B B′ C C′ : List ℕ) (a b : Answer) → Canonicalizes text B B′ a → Canonicalizes other C C′ b
     → a .number ≡ 0 → b .number ≡ 0 → (t u : Tree) → ReadingOf text t → ReadingOf other u → (take (a .count) B′ ≡ take (b .count) C′) ↔ Agree t u
 same-bytes = CanonicalCalls.same-bytes
+
+-- Document 02, §2: "A rule under either sort of table still has at most one tree". `one-tree` says it of a text; of a span it holds under all
+-- operators that keep the overloading rule: no operator has both an infix and a postfix role, or every one meets the four conditions.
+pub one-span-tree :
+    (T : Table) → Permitted T → (is : List Item) (s u : SpanTree) → IsSpanTree T is s → IsSpanTree T is u → s ≡ u
+one-span-tree T h = climb-unique T (permitted-unambiguous T h)
+
+-- "the widest level of a span is sought among roles in use": the root of a tree has the widest precedence of the roles in which its operators
+-- stand, whatever the table. It follows and is not asked besides.
+pub widest-root : (T : Table) (s : SpanTree) → Admitted T s → rootPrecedence (root T s) ≡ widest T s
+widest-root = root-widest
+
+-- "Refusal 10 covers less than before": a table that passed before passes still, ..
+pub passes-still : (T : Table) → Conditions T → Permitted T
+passes-still T h = conditions h
+
+-- .. and a text that the four conditions, asked of every table, would not refuse with 10 has the answer and the buffer of a reader that asks
+-- them of every table, so the same tree and the same canonical text.
+pub read-as-with-conditions :
+    (text : Bytes) → Conditioned text → (N N′ : List ℕ) (a : Answer) → Reads text N N′ a → OnlyReading withFourConditions text N N′ a
+read-as-with-conditions = Settled.read-conditioned
+
+pub canonicalize-as-with-conditions :
+    (text : Bytes) → Conditioned text → (B B′ : List ℕ) (a : Answer) → Canonicalizes text B B′ a → OnlyCanonical withFourConditions text B B′ a
+canonicalize-as-with-conditions = Settled.canonicalize-conditioned
 
 -- Document 02, §3: "two numbers are copied alike exactly when their values are equal", ..
 pub same-digits : (d e : Bytes) → isNumber d ≡ true → isNumber e ≡ true → (value d ≡ value e) ↔ (strip d ≡ strip e)
@@ -161,21 +189,15 @@ empty-inside-canonicalized = BlankCalls.empty-inside-canonicalized
 -- operator, the answer and the buffer are those of a reader without the rule: all that is asked of one where none is reserved holds of the
 -- call, and nothing else meets it.
 pub read-as-before :
-    (text : Bytes) → Unreserved text → (N N′ : List ℕ) (a : Answer) → Reads text N N′ a
-    → RightReading noneReserved text N N′ a × ((N″ : List ℕ) (b : Answer) → RightReading noneReserved text N N″ b → (a ≡ b) × (N′ ≡ N″))
-read-as-before = Settled.read-as-before
+    (text : Bytes) → Unreserved text → (N N′ : List ℕ) (a : Answer) → Reads text N N′ a → OnlyReading withoutReserving text N N′ a
+read-as-before = Settled.read-unreserved
 
 pub canonicalize-as-before :
-    (text : Bytes) → Unreserved text → (B B′ : List ℕ) (a : Answer) → Canonicalizes text B B′ a
-    → RightCanonical noneReserved text B B′ a × ((B″ : List ℕ) (b : Answer) → RightCanonical noneReserved text B B″ b → (a ≡ b) × (B′ ≡ B″))
-canonicalize-as-before = Settled.canonicalize-as-before
+    (text : Bytes) → Unreserved text → (B B′ : List ℕ) (a : Answer) → Canonicalizes text B B′ a → OnlyCanonical withoutReserving text B B′ a
+canonicalize-as-before = Settled.canonicalize-unreserved
 
 -- In every span, and so in every block, `and`, `or` and `not` have the roles that they start with.
 pub reserved-roles :
     (m : Bytes) → isReserved m ≡ true → (f : Fixity) (text : Bytes) (ts : List Token) → Past text ts → (s : Span) → SpanOf ts s
     → role (s .table) m f ≡ role startTable m f
 reserved-roles = ReservedRoles.reserved-roles
-
--- That the root has the widest precedence follows and is not asked besides.
-pub widest-root : (T : Table) → Conditions T → (s : SpanTree) → Admitted T s → rootPrecedence (root T s) ≡ widest T (yield s)
-widest-root = root-widest

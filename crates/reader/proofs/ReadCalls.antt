@@ -11,14 +11,14 @@ use borrow.Author.Tests.{leb-true, le-leb}
 use Rattle.grammar.specs.Bytes.{Bytes}
 use Rattle.grammar.specs.Token.{Token}
 use Rattle.grammar.specs.Outcome.{Outcome, refused, passed}
-use Rattle.grammar.specs.Declaration.{startTable, isReserved}
+use Rattle.grammar.specs.Declaration.{startTable}
 use Rattle.grammar.specs.Tree.{Tree}
 use Rattle.grammar.specs.Nodes.{count, wordsPerNode}
 use Rattle.grammar.specs.Claim.{ReadingOf}
 use Rattle.grammar.specs.Answer as G
 use Rattle.grammar.specs.Answer.{Reading, offsetOf, readText, readInto, readingWords, over}
 use Rattle.grammar.specs.Spelling.{TokenAt}
-use Rattle.grammar.specs.Fault.{Past}
+use Rattle.grammar.specs.Fault.{current, Past}
 use Rattle.grammar.specs.NodePrecedence.{NodePrecedence}
 use Rattle.grammar.proofs.Scanned.{length-tokens}
 use Rattle.grammar.proofs.TokenFaults.{token-at}
@@ -105,5 +105,5 @@ node-precedences text N N′ a h z ts p k l =
     subst (λ us. NodePrecedence text us N′ k) (reading-tokens text ts t p i) (tree-held text N N′ a h z t i .precedences k l)
 
 -- All that is asked of it.
-pub right : (text : Bytes) (N N′ : List ℕ) (a : Answer) → Reads text N N′ a → RightReading isReserved text N N′ a
+pub right : (text : Bytes) (N N′ : List ℕ) (a : Answer) → Reads text N N′ a → RightReading current text N N′ a
 right text N N′ a h = record { answers = answers text N N′ a h; held = tree-held text N N′ a h }

@@ -1,5 +1,5 @@
 -- What is asked of a call settles its answer and its buffer: the number says which of the demands applies, and that one gives the rest.
--- It speaks of the reserved operators only through the rows that hold of the text, so it is asked alike where these are alike.
+-- It speaks of the rules only through the rows that hold of the text, so it is asked alike where these are alike.
 use mathlib.Core.Path.{_≡_, refl, sym, ap, ap₂, _∙_}
 use mathlib.Core.Logic.{_⊎_, inl, inr, ⊎-elim}
 use mathlib.Core.Bool.{Bool, true, false}
@@ -13,12 +13,15 @@ use Rattle.grammar.specs.Bytes.{Bytes}
 use Rattle.grammar.specs.Tree.{Tree}
 use Rattle.grammar.specs.Nodes.{wordsPerNode}
 use Rattle.grammar.specs.Declaration.{startTable, isReserved}
-use Rattle.grammar.specs.Fault.{BeforeEleven, noneReserved, Unreserved}
+use Rattle.grammar.specs.Operator.{Permitted}
+use Rattle.grammar.specs.Fault.{Rules, current, withoutReserving, withFourConditions, BeforeEleven, Unreserved, Conditioned}
 use Rattle.grammar.proofs.TokenFaults.{goes-on-unique}
 use Rattle.grammar.proofs.WordsOffsets.{words-offsets}
-use Rattle.grammar.proofs.ReservedNames.{Alike, same-fault, same-past, same-readings}
+use Rattle.grammar.proofs.RulesAlike.{Alike, alike-back, same-past, same-readings}
+use Rattle.grammar.proofs.ReservedNames.{reserved-alike}
+use Rattle.grammar.proofs.FourConditions.{conditions-alike}
 use Rattle.reader.specs.declared.Answer.{Answer}
-use Rattle.reader.specs.Demands.{RightAnswerReserving, TableHolds, BufferHolds, Right, RightReading, RightCanonical}
+use Rattle.reader.specs.Demands.{RightAnswerUnder, TableHolds, BufferHolds, Right, RightReading, RightCanonical, OnlyReading, OnlyCanonical}
 use Rattle.reader.specs.Answered.{Reads, Canonicalizes}
 use Rattle.reader.proofs.ReadCalls as ReadCalls
 use Rattle.reader.proofs.CanonicalCalls as CanonicalCalls
@@ -54,9 +57,9 @@ ten-or-eleven k l = go (leb k 10) refl
     go true e = inl (leb-true k 10 e)
     go false e = inr (omega (arith, leb-false k 10 e))
 
-module _ {reserved : Bytes → Bool} {own : ℕ} {Fits : Tree → Type 0} {Holds : List ℕ → ℕ → Tree → Type 0} {text : Bytes} {B : List ℕ} where
+module _ {rules : Rules} {own : ℕ} {Fits : Tree → Type 0} {Holds : List ℕ → ℕ → Tree → Type 0} {text : Bytes} {B : List ℕ} where
   -- Two calls that meet the same demands.
-  module _ {B′ B″ : List ℕ} {a b : Answer} (h : Right reserved own Fits Holds text B B′ a) (g : Right reserved own Fits Holds text B B″ b) where
+  module _ {B′ B″ : List ℕ} {a b : Answer} (h : Right rules own Fits Holds text B B′ a) (g : Right rules own Fits Holds text B B″ b) where
     same-answer : a .number ≡ b .number → a .offset ≡ b .offset → a .count ≡ b .count → a ≡ b
     same-answer n p c i = record { number = n i; offset = p i; count = c i }
 
@@ -97,30 +100,26 @@ module _ {reserved : Bytes → Bool} {own : ℕ} {Fits : Tree → Type 0} {Holds
         low zero e l = readings unique e
         low (suc n) e l = ⊎-elim (λ m. row (inl (omega arith))) last (ten-or-eleven (a .number) l)
 
--- Where two choices of reserved operators agree on what the text declares, the same is asked.
-module _ (R S : Bytes → Bool) (text : Bytes) (alike : Alike R S text) where
-  back : Alike S R text
-  back d h = sym (alike d h)
-
+-- Under rules that let the same rows hold of the text the same is asked.
+module _ {R S : Rules} {text : Bytes} (alike : Alike R S text) where
   answers-alike :
-      {own : ℕ} {Fits : Tree → Type 0} {B B′ : List ℕ} {a : Answer} → RightAnswerReserving R own Fits text B B′ a
-      → RightAnswerReserving S own Fits text B B′ a
+      {own : ℕ} {Fits : Tree → Type 0} {B B′ : List ℕ} {a : Answer} → RightAnswerUnder R own Fits text B B′ a → RightAnswerUnder S own Fits text B B′ a
   answers-alike h =
       record {
         known = h .known;
-        faults = λ n p. (λ z. same-fault R S text alike (h .faults n p .0 z), λ f. h .faults n p .1 (same-fault S R text back f));
+        faults = λ n p. (λ z. alike n p .0 (h .faults n p .0 z), λ f. h .faults n p .1 (alike n p .1 f));
         eleven =
             λ p. (
-              λ z. let (x, ts, past, first) = h .eleven p .0 z in (x, ts, same-past R S text alike past, first),
-              λ (x, ts, past, first). h .eleven p .1 (x, ts, same-past S R text back past, first),
+              λ z. let (x, ts, past, first) = h .eleven p .0 z in (x, ts, same-past alike past, first),
+              λ (x, ts, past, first). h .eleven p .1 (x, ts, same-past (alike-back alike) past, first),
             );
         success = (
-          λ z. let (t, tree, fits) = h .success .0 z in (t, same-readings R S text alike tree, fits),
-          λ (t, tree, fits). h .success .1 (t, same-readings S R text back tree, fits),
+          λ z. let (t, tree, fits) = h .success .0 z in (t, same-readings alike tree, fits),
+          λ (t, tree, fits). h .success .1 (t, same-readings (alike-back alike) tree, fits),
         );
         tooShort = (
-          λ z. let (t, tree, fails) = h .tooShort .0 z in (t, same-readings R S text alike tree, fails),
-          λ (t, tree, fails). h .tooShort .1 (t, same-readings S R text back tree, fails),
+          λ z. let (t, tree, fails) = h .tooShort .0 z in (t, same-readings alike tree, fails),
+          λ (t, tree, fails). h .tooShort .1 (t, same-readings (alike-back alike) tree, fails),
         );
         placeZero = h .placeZero;
         unchanged = h .unchanged;
@@ -129,27 +128,46 @@ module _ (R S : Bytes → Bool) (text : Bytes) (alike : Alike R S text) where
   right-alike :
       {own : ℕ} {Fits : Tree → Type 0} {Holds : List ℕ → ℕ → Tree → Type 0} {B B′ : List ℕ} {a : Answer}
       → Right R own Fits Holds text B B′ a → Right S own Fits Holds text B B′ a
-  right-alike h = record { answers = answers-alike (h .answers); held = λ z t tree. h .held z t (same-readings S R text back tree) }
+  right-alike h = record { answers = answers-alike (h .answers); held = λ z t tree. h .held z t (same-readings (alike-back alike) tree) }
 
--- Of the two services, first where the three operators of document 02, §9, are reserved, then where none is.
+-- Of the two services, first under the rules as they are, ..
 pub read-settled :
-    (text : Bytes) (N N′ N″ : List ℕ) (a b : Answer) → Reads text N N′ a → RightReading isReserved text N N″ b → (a ≡ b) × (N′ ≡ N″)
+    (text : Bytes) (N N′ N″ : List ℕ) (a b : Answer) → Reads text N N′ a → RightReading current text N N″ b → (a ≡ b) × (N′ ≡ N″)
 read-settled text N N′ N″ a b h g = settled (ReadCalls.right text N N′ a h) g (omega arith) (table-settled text N)
 
 pub canonicalize-settled :
-    (text : Bytes) (B B′ B″ : List ℕ) (a b : Answer) → Canonicalizes text B B′ a → RightCanonical isReserved text B B″ b → (a ≡ b) × (B′ ≡ B″)
+    (text : Bytes) (B B′ B″ : List ℕ) (a b : Answer) → Canonicalizes text B B′ a → RightCanonical current text B B″ b → (a ≡ b) × (B′ ≡ B″)
 canonicalize-settled text B B′ B″ a b h g = settled (CanonicalCalls.right text B B′ a h) g (omega arith) (buffer-settled B)
 
-pub read-as-before :
-    (text : Bytes) → Unreserved text → (N N′ : List ℕ) (a : Answer) → Reads text N N′ a
-    → RightReading noneReserved text N N′ a × ((N″ : List ℕ) (b : Answer) → RightReading noneReserved text N N″ b → (a ≡ b) × (N′ ≡ N″))
-read-as-before text free N N′ a h =
-    let before = right-alike isReserved noneReserved text free (ReadCalls.right text N N′ a h) in
-    (before, λ N″ b g. settled before g (omega arith) (table-settled text N))
+-- .. then under others that are alike for the text.
+module _ {R : Rules} {text : Bytes} (alike : Alike current R text) where
+  read-alike : (N N′ : List ℕ) (a : Answer) → Reads text N N′ a → OnlyReading R text N N′ a
+  read-alike N N′ a h =
+      let other = right-alike alike (ReadCalls.right text N N′ a h) in
+      (other, λ N″ b g. settled other g (omega arith) (table-settled text N))
 
-pub canonicalize-as-before :
-    (text : Bytes) → Unreserved text → (B B′ : List ℕ) (a : Answer) → Canonicalizes text B B′ a
-    → RightCanonical noneReserved text B B′ a × ((B″ : List ℕ) (b : Answer) → RightCanonical noneReserved text B B″ b → (a ≡ b) × (B′ ≡ B″))
-canonicalize-as-before text free B B′ a h =
-    let before = right-alike isReserved noneReserved text free (CanonicalCalls.right text B B′ a h) in
-    (before, λ B″ b g. settled before g (omega arith) (buffer-settled B))
+  canonicalize-alike : (B B′ : List ℕ) (a : Answer) → Canonicalizes text B B′ a → OnlyCanonical R text B B′ a
+  canonicalize-alike B B′ a h =
+      let other = right-alike alike (CanonicalCalls.right text B B′ a h) in
+      (other, λ B″ b g. settled other g (omega arith) (buffer-settled B))
+
+-- Where no declaration names a reserved operator: as if none were reserved.
+unreserved-alike : (text : Bytes) → Unreserved text → Alike current withoutReserving text
+unreserved-alike text free = reserved-alike Permitted isReserved (λ m. false) text free
+
+pub read-unreserved :
+    (text : Bytes) → Unreserved text → (N N′ : List ℕ) (a : Answer) → Reads text N N′ a → OnlyReading withoutReserving text N N′ a
+read-unreserved text free = read-alike (unreserved-alike text free)
+
+pub canonicalize-unreserved :
+    (text : Bytes) → Unreserved text → (B B′ : List ℕ) (a : Answer) → Canonicalizes text B B′ a → OnlyCanonical withoutReserving text B B′ a
+canonicalize-unreserved text free = canonicalize-alike (unreserved-alike text free)
+
+-- Where the four conditions would not refuse the text: as if they were asked of every table.
+pub read-conditioned :
+    (text : Bytes) → Conditioned text → (N N′ : List ℕ) (a : Answer) → Reads text N N′ a → OnlyReading withFourConditions text N N′ a
+read-conditioned text never = read-alike (conditions-alike text never)
+
+pub canonicalize-conditioned :
+    (text : Bytes) → Conditioned text → (B B′ : List ℕ) (a : Answer) → Canonicalizes text B B′ a → OnlyCanonical withFourConditions text B B′ a
+canonicalize-conditioned text never = canonicalize-alike (conditions-alike text never)

@@ -1,48 +1,47 @@
 -- What the claims say of a call, in the terms of document 01.
 use mathlib.Core.Path.{_≡_}
 use mathlib.Core.Logic.{_↔_, _⊎_}
-use mathlib.Core.Bool.{Bool}
 use mathlib.Core.List.{List, _∷_}
 use mathlib.Core.Option.{none, some}
 use Prim.Native.Nat.{ℕ, _*_, _≤_, _<_}
 use lib.ListN.{length, take, drop, getD}
 use Rattle.grammar.specs.Bytes.{Bytes}
 use Rattle.grammar.specs.Token.{Token}
-use Rattle.grammar.specs.Declaration.{Declaration, startTable, isReserved}
+use Rattle.grammar.specs.Declaration.{Declaration, startTable}
 use Rattle.grammar.specs.Spelling.{TokenAt}
 use Rattle.grammar.specs.Tree.{Tree, flat}
 use Rattle.grammar.specs.Nodes.{count, words, wordsPerNode}
-use Rattle.grammar.specs.Fault.{longestText, BeforeEleven, FaultReserving, PastReserving}
+use Rattle.grammar.specs.Fault.{Rules, current, longestText, BeforeEleven, FaultUnder, PastUnder}
 use Rattle.grammar.specs.Decoding.{decodeTable, Ordered, Together}
 use Rattle.grammar.specs.NodePrecedence.{NodePrecedence}
-use Rattle.grammar.specs.Claim.{nodeNames, nodeBlocks, FromLetToIn, FirstWithout, ReadingReserving, canonicalBytes}
+use Rattle.grammar.specs.Claim.{nodeNames, nodeBlocks, FromLetToIn, FirstWithout, ReadingUnder, canonicalBytes}
 use Rattle.reader.specs.declared.Answer.{Answer}
 use Rattle.reader.specs.Answered.{nodeCharacters}
 
 -- Demand 1, of a service whose own refusal has the number `own` and is given where a tree does not fit. `B` is the lent buffer before the
--- call, `B′` after it. Which operators are reserved (document 02, §9) is a parameter.
-pub record RightAnswerReserving
-    (reserved : Bytes → Bool) (own : ℕ) (Fits : Tree → Type 0) (text : Bytes) (B B′ : List ℕ) (a : Answer)
+-- call, `B′` after it. The rules that documents 01 and 02 set (`Rules`) are a parameter.
+pub record RightAnswerUnder
+    (rules : Rules) (own : ℕ) (Fits : Tree → Type 0) (text : Bytes) (B B′ : List ℕ) (a : Answer)
     : Type 0 where
   -- There is no other number.
   pub known : (a .number ≤ 11) ⊎ ((a .number ≡ 17) ⊎ (a .number ≡ own))
   -- Rows 1 to 10 and 17, and only these, where documents 01 and 02 call for them.
-  pub faults : (n p : ℕ) → ((a .number ≡ n) × (a .offset ≡ p) × BeforeEleven n) ↔ FaultReserving reserved text n p
+  pub faults : (n p : ℕ) → ((a .number ≡ n) × (a .offset ≡ p) × BeforeEleven n) ↔ FaultUnder rules text n p
   -- "11: span without a tree: 0, the `(`, or the `in`"
   -- Of texts with at least one token (02, §7).
   pub eleven :
       (p : ℕ)
       → ((a .number ≡ 11) × (a .offset ≡ p))
-      ↔ ((x : Token) × (ts : List Token) × PastReserving reserved text (x ∷ ts) × FirstWithout text (x ∷ ts) p)
+      ↔ ((x : Token) × (ts : List Token) × PastUnder rules text (x ∷ ts) × FirstWithout text (x ∷ ts) p)
   -- Number 0 exactly where the text reads as something and it fits, the own number exactly where it does not fit; both have place 0.
-  pub success : (a .number ≡ 0) ↔ ((t : Tree) × ReadingReserving reserved text t × Fits t)
-  pub tooShort : (a .number ≡ own) ↔ ((t : Tree) × ReadingReserving reserved text t × (Fits t → ⊥))
+  pub success : (a .number ≡ 0) ↔ ((t : Tree) × ReadingUnder rules text t × Fits t)
+  pub tooShort : (a .number ≡ own) ↔ ((t : Tree) × ReadingUnder rules text t × (Fits t → ⊥))
   pub placeZero : (a .number ≡ 0) ⊎ (a .number ≡ own) → a .offset ≡ 0
   -- "Refused: count 0, buffers unchanged."
   pub unchanged : (a .number ≡ 0 → ⊥) → (B′ ≡ B) × (a .count ≡ 0)
 
 abbrev pub RightAnswer : ℕ → (Tree → Type 0) → Bytes → List ℕ → List ℕ → Answer → Type 0
-RightAnswer = RightAnswerReserving isReserved
+RightAnswer = RightAnswerUnder current
 
 -- "12: reading: node table too short"
 abbrev pub TableFits : List ℕ → Tree → Type 0
@@ -81,14 +80,23 @@ pub record BufferHolds (B B′ : List ℕ) (c : ℕ) (t : Tree) : Type 0 where
 
 -- All that is asked of a call: the answer, and that the buffer holds what a text is read as.
 pub record Right
-    (reserved : Bytes → Bool) (own : ℕ) (Fits : Tree → Type 0) (Holds : List ℕ → ℕ → Tree → Type 0) (text : Bytes) (B B′ : List ℕ) (a : Answer)
+    (rules : Rules) (own : ℕ) (Fits : Tree → Type 0) (Holds : List ℕ → ℕ → Tree → Type 0) (text : Bytes) (B B′ : List ℕ) (a : Answer)
     : Type 0 where
-  pub answers : RightAnswerReserving reserved own Fits text B B′ a
-  pub held : a .number ≡ 0 → (t : Tree) → ReadingReserving reserved text t → Holds B′ (a .count) t
+  pub answers : RightAnswerUnder rules own Fits text B B′ a
+  pub held : a .number ≡ 0 → (t : Tree) → ReadingUnder rules text t → Holds B′ (a .count) t
 
 -- Of a call of `read`, and of one of `canonicalize`.
-abbrev pub RightReading : (Bytes → Bool) → Bytes → List ℕ → List ℕ → Answer → Type 0
-RightReading reserved text N N′ a = Right reserved 12 (TableFits N) (TableHolds text N) text N N′ a
+abbrev pub RightReading : Rules → Bytes → List ℕ → List ℕ → Answer → Type 0
+RightReading rules text N N′ a = Right rules 12 (TableFits N) (TableHolds text N) text N N′ a
 
-abbrev pub RightCanonical : (Bytes → Bool) → Bytes → List ℕ → List ℕ → Answer → Type 0
-RightCanonical reserved text B B′ a = Right reserved 13 (BufferFits B) (BufferHolds B) text B B′ a
+abbrev pub RightCanonical : Rules → Bytes → List ℕ → List ℕ → Answer → Type 0
+RightCanonical rules text B B′ a = Right rules 13 (BufferFits B) (BufferHolds B) text B B′ a
+
+-- A call is what is asked for under those rules, and nothing else is.
+abbrev pub OnlyReading : Rules → Bytes → List ℕ → List ℕ → Answer → Type 0
+OnlyReading rules text N N′ a =
+    RightReading rules text N N′ a × ((N″ : List ℕ) (b : Answer) → RightReading rules text N N″ b → (a ≡ b) × (N′ ≡ N″))
+
+abbrev pub OnlyCanonical : Rules → Bytes → List ℕ → List ℕ → Answer → Type 0
+OnlyCanonical rules text B B′ a =
+    RightCanonical rules text B B′ a × ((B″ : List ℕ) (b : Answer) → RightCanonical rules text B B″ b → (a ≡ b) × (B′ ≡ B″))

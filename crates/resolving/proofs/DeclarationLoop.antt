@@ -15,7 +15,7 @@ use Rattle.grammar.specs.Token.{Token, keywordLet, structureNumber}
 use Rattle.grammar.specs.Outcome.{Outcome, refused, passed, andThen}
 use Rattle.grammar.specs.Scan.{Placed}
 use Rattle.grammar.specs.Answer.{offsetOf}
-use Rattle.grammar.specs.Operator.{declareRole, removeRoles, lawfulTable}
+use Rattle.grammar.specs.Operator.{declareRole, removeRoles, permitted}
 use Rattle.grammar.specs.Operator as G
 use Rattle.grammar.specs.Coded.{kindOf, fixityOf}
 use Rattle.grammar.specs.Declaration.{declaration, isReserved, mostOperators, enter}
@@ -31,14 +31,14 @@ use Rattle.operators.specs.Entries.{codedFind, hashOf, tableOf, Sound, IsName, 
 use Rattle.operators.specs.declared.table.Found.{Found}
 use Rattle.operators.specs.declared.table.Found.the-variants.{At, Nothing}
 use Rattle.operators.specs.declared.table.Table.{Table}
-use Rattle.operators.proofs.Lookups.{table-count, unfound-role, unfound-count, sound-bounded, declared-lawful, cleared-lawful}
+use Rattle.operators.proofs.Lookups.{table-count, unfound-role, unfound-count, sound-bounded, declared-permitted, cleared-permitted}
 use Rattle.declaration_part.specs.Parsing.{nextPlace, Parses, Parsable}
 use Rattle.declaration_part.specs.declared.parse.Parsed.the-variants.{Unfit}
 use Rattle.resolving.specs.declared.Resolved.{Resolved}
 use Rattle.resolving.specs.declared.Resolved.the-variants.{Refused}
-use Rattle.resolving.specs.Resolving.{Ranged, Lawful, isNew, isFull, Resolves, Resolving, BlockResolves, BlockResolving}
+use Rattle.resolving.specs.Resolving.{Ranged, PermittedTable, isNew, isFull, Resolves, Resolving, BlockResolves, BlockResolving}
 use Rattle.rows.proofs.Noting.{kept-none}
-use Rattle.resolving.proofs.Declared.{structure-kind, begins-behind, entered, entered-lawful, entered-unlawful, unfit-at, DeclarationAt, RoleAt, ClearsAt}
+use Rattle.resolving.proofs.Declared.{structure-kind, begins-behind, entered, entered-permitted, entered-refused, unfit-at, DeclarationAt, RoleAt, ClearsAt}
 
 -- The body's range as the code passes it on.
 pub body-ranged :
@@ -50,7 +50,7 @@ module _ (text : Bytes) (K : List ℕ) (T : G.Table) (i c : ℕ) where
   answer = enter (length (range text K (suc i) c)) T (suc i) (range text K (suc i) c)
 
   -- What holds between turns.
-  pub record Entering (t : Table) (lawful : Bool) (place at : ℕ) : Type 0 where
+  pub record Entering (t : Table) (passes : Bool) (place at : ℕ) : Type 0 where
     pub placed : List Placed
     pub stored : Stored text placed K
     pub short : length text ≤ longestText
@@ -59,7 +59,7 @@ module _ (text : Bytes) (K : List ℕ) (T : G.Table) (i c : ℕ) where
     pub low : i < at
     pub high : at ≤ c
     pub sound : Sound text t
-    pub meets : lawful ≡ true → lawfulTable (tableOf text t) ≡ true
+    pub meets : passes ≡ true → permitted (tableOf text t) ≡ true
     pub begins : place ≡ offsetOf text placed at
     pub answered : answer ≡ entered text K c (tableOf text t) at
 
@@ -69,7 +69,7 @@ module _ (text : Bytes) (K : List ℕ) (T : G.Table) (i c : ℕ) where
       ∙ ap (entered text K c T) (sym (add-one i))
 
   pub entering-first :
-      {R : List ℕ} {from to : ℕ} (g : Ranged text K R from to) (t : Table) {first place : ℕ} → i < c → c < to → kind K i ≡ 7 → Lawful text t
+      {R : List ℕ} {from to : ℕ} (g : Ranged text K R from to) (t : Table) {first place : ℕ} → i < c → c < to → kind K i ≡ 7 → PermittedTable text t
       → tableOf text t ≡ T → first ≡ start K i → place ≡ nextPlace text first 3 → Entering t true place (i + 1)
   unfolding kindOf structureNumber structureSize
   entering-first g t {first} l m k h e s p =
@@ -84,7 +84,7 @@ module _ (text : Bytes) (K : List ℕ) (T : G.Table) (i c : ℕ) where
         low = omega arith;
         high = omega arith;
         sound = h .sound;
-        meets = λ z. h .lawful;
+        meets = λ z. h .kept;
         begins =
             p ∙ ap (λ f. nextPlace text f 3) s
             ∙ begins-behind (g .stored) i n (λ x y. omega arith) (sym (z .1))
@@ -93,8 +93,8 @@ module _ (text : Bytes) (K : List ℕ) (T : G.Table) (i c : ℕ) where
       }
 
   -- A block without declarations.
-  pub answer-none : c ≡ i + 1 → lawfulTable T ≡ true → answer ≡ passed T
-  answer-none e h = answer-first ∙ entered-lawful text K c T (i + 1) (sym e) h
+  pub answer-none : c ≡ i + 1 → permitted T ≡ true → answer ≡ passed T
+  answer-none e h = answer-first ∙ entered-permitted text K c T (i + 1) (sym e) h
 
   -- What a block answers: the refusal of its declarations, or what its body answers under the operators that they leave.
   pub answers-refused : (e : ℕ) (R : List ℕ) (n p : ℕ) → answer ≡ refused n p → BlockResolving text K T i c e R R (Refused n p)
@@ -136,7 +136,7 @@ new-found Nothing z = refl
 
 -- The name at a token that is a word or sign.
 module _
-    {text : Bytes} {K : List ℕ} {T : G.Table} {i c : ℕ} {t : Table} {lawful : Bool} {place at : ℕ} (inv : Entering text K T i c t lawful place at)
+    {text : Bytes} {K : List ℕ} {T : G.Table} {i c : ℕ} {t : Table} {passes : Bool} {place at : ℕ} (inv : Entering text K T i c t passes place at)
   where
     module _ {j : ℕ} (l : j < length (inv .placed)) (k : kind K j ≡ 1) {o n : ℕ} (a : o ≡ start K j) (b : n ≡ size K j) where
       name-characters : take n (drop o text) ≡ charactersOf text K j
@@ -189,7 +189,7 @@ module _
     passed-over :
         {change : G.Table → G.Table} {k n : ℕ} → DeclarationAt text K c (inv .placed) at change k n
         → isReserved (charactersOf text K (at + k)) ≡ false → (u : Table) → Sound text u → tableOf text u ≡ change operators
-        → (still : Bool) → (still ≡ true → lawfulTable (tableOf text u) ≡ true)
+        → (still : Bool) → (still ≡ true → permitted (tableOf text u) ≡ true)
         → {next : ℕ} → next ≡ nextPlace text (nextPlace text (start K (at + k)) (size K (at + k))) 1
         → Entering text K T i c u still next (at + n)
     passed-over {n = n} step free u s e still m b =
@@ -259,15 +259,15 @@ module _
               room = λ e. leb-false mostOperators (t .count) (ap (isFull (t .count)) (sym e) ∙ z);
             }
 
-        -- It meets the conditions still, if it did and the operator is new.
+        -- The rule is kept still, if it was and the operator is new.
         pub declared-over :
-            isReserved name ≡ false → (u : Table) → Declared text t o n f code u → (still : Bool) → (still ≡ true → (lawful ≡ true) × (isNew found ≡ true))
+            isReserved name ≡ false → (u : Table) → Declared text t o n f code u → (still : Bool) → (still ≡ true → (passes ≡ true) × (isNew found ≡ true))
             → {next : ℕ} → next ≡ nextPlace text (nextPlace text o n) 1 → Entering text K T i c u still next (at + 5)
         declared-over free u d still m e =
             let table = d .table (role .declared) (role .coded) in
             passed-over (role .step) (rw is-characters at free) u (d .sound) (table ∙ ap (λ w. declareRole w (fixityOf f) (role .declared) operators) is-characters) still
             (λ z. rw table
-            (declared-lawful name (fixityOf f) (role .declared) operators (inv .meets (m z .0))
+            (declared-permitted name (fixityOf f) (role .declared) operators (inv .meets (m z .0))
             (unfound-role text t name (sym looked ∙ new-found found (m z .1)))))
             (e ∙ ap₂ (λ p s. nextPlace text (nextPlace text p s) 1) (role .stands) b)
 
@@ -290,16 +290,16 @@ module _
 
       pub cleared-over :
           isReserved (take n (drop o text)) ≡ false → (u : Table) → Cleared text t (take n (drop o text)) u
-          → {next : ℕ} → next ≡ nextPlace text (nextPlace text o n) 1 → Entering text K T i c u lawful next (at + 3)
+          → {next : ℕ} → next ≡ nextPlace text (nextPlace text o n) 1 → Entering text K T i c u passes next (at + 3)
       cleared-over free u d e =
-          passed-over (clears .step) (rw cleared-characters at free) u (d .sound) (d .table ∙ ap (λ w. removeRoles w operators) cleared-characters) lawful
-          (λ z. rw (d .table) (cleared-lawful _ operators (inv .meets z)))
+          passed-over (clears .step) (rw cleared-characters at free) u (d .sound) (d .table ∙ ap (λ w. removeRoles w operators) cleared-characters) passes
+          (λ z. rw (d .table) (cleared-permitted _ operators (inv .meets z)))
           (e ∙ ap₂ (λ p s. nextPlace text (nextPlace text p s) 1) (clears .stands) b)
 
     -- Behind the last declaration.
     module _ (e : c ≤ at) where
-      pub lawful-passes : lawfulTable operators ≡ true → answer text K T i c ≡ passed operators
-      lawful-passes z = let high = inv .high in inv .answered ∙ entered-lawful text K c operators at (omega arith) z
+      pub kept-passes : permitted operators ≡ true → answer text K T i c ≡ passed operators
+      kept-passes z = let high = inv .high in inv .answered ∙ entered-permitted text K c operators at (omega arith) z
 
-      pub unlawful-refuses : lawfulTable operators ≡ false → answer text K T i c ≡ refused 10 c
-      unlawful-refuses z = let high = inv .high in inv .answered ∙ entered-unlawful text K c operators at (omega arith) z
+      pub broken-refuses : permitted operators ≡ false → answer text K T i c ≡ refused 10 c
+      broken-refuses z = let high = inv .high in inv .answered ∙ entered-refused text K c operators at (omega arith) z

@@ -15,7 +15,7 @@ use Rattle.grammar.specs.Token.{Token, Structure, atom, structure, symbol, semi
 use Rattle.grammar.specs.Outcome.{Outcome, refused, passed}
 use Rattle.grammar.specs.Scan.{Placed}
 use Rattle.grammar.specs.Answer.{offsetOf}
-use Rattle.grammar.specs.Operator.{Fixity, Prefix, Infix, Postfix, Associativity, allowed, Role, Table, declareRole, removeRoles, lawfulTable}
+use Rattle.grammar.specs.Operator.{Fixity, Prefix, Infix, Postfix, Associativity, allowed, Role, Table, declareRole, removeRoles, permitted}
 use Rattle.grammar.specs.Coded.{kindOf, fixityOf, fixityCode}
 use Rattle.grammar.specs.Declaration.{
   Declaration,
@@ -117,13 +117,13 @@ module _ (text : Bytes) (K : List ℕ) (to : ℕ) where
   entered-end : (T : Table) (at : ℕ) → at ≡ to → entered T at ≡ checkedAt to T
   entered-end T at h = ap (entered T) h ∙ ap (enter (to - to) T to) (range-none text K to) ∙ enter-end (to - to) T to
 
-  pub entered-lawful : (T : Table) (at : ℕ) → at ≡ to → lawfulTable T ≡ true → entered T at ≡ passed T
+  pub entered-permitted : (T : Table) (at : ℕ) → at ≡ to → permitted T ≡ true → entered T at ≡ passed T
   unfolding checkedAt
-  entered-lawful T at h e = entered-end T at h ∙ rw (e, checkedAt)
+  entered-permitted T at h e = entered-end T at h ∙ rw (e, checkedAt)
 
-  pub entered-unlawful : (T : Table) (at : ℕ) → at ≡ to → lawfulTable T ≡ false → entered T at ≡ refused 10 to
+  pub entered-refused : (T : Table) (at : ℕ) → at ≡ to → permitted T ≡ false → entered T at ≡ refused 10 to
   unfolding checkedAt
-  entered-unlawful T at h e = entered-end T at h ∙ rw (e, checkedAt)
+  entered-refused T at h e = entered-end T at h ∙ rw (e, checkedAt)
 
   -- A declaration of `n` tokens at `at`, with its operator at token `place` of it, that makes `change` of the operators in force.
   pub record DeclarationAt (ps : List Placed) (at : ℕ) (change : Table → Table) (place n : ℕ) : Type 0 where

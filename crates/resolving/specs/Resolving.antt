@@ -10,7 +10,7 @@ use Rattle.grammar.specs.Bytes.{Bytes}
 use Rattle.grammar.specs.Token.{symbol}
 use Rattle.grammar.specs.Outcome.{Outcome, refused, passed, andThen}
 use Rattle.grammar.specs.Scan.{Placed}
-use Rattle.grammar.specs.Operator.{Table, lawfulTable}
+use Rattle.grammar.specs.Operator.{Table, permitted}
 use Rattle.grammar.specs.Declaration.{mostOperators, enter, declarations, allTokens}
 use Rattle.grammar.specs.Blocks.{bodyTable, checkBlocks}
 use Rattle.rows.specs.Fields.{kind, start, size, closer, arrival, Holds}
@@ -63,10 +63,10 @@ pub record Ranged (text : Bytes) (K R : List ℕ) (from to : ℕ) : Type 0 where
   pub roles : Holds 4 R (length placed)
   pub paired : Paired K from to
 
--- A table that meets the four conditions.
-pub record Lawful (text : Bytes) (t : E.Table) : Type 0 where
+-- A table that keeps the overloading rule.
+pub record PermittedTable (text : Bytes) (t : E.Table) : Type 0 where
   pub sound : Sound text t
-  pub lawful : lawfulTable (tableOf text t) ≡ true
+  pub kept : permitted (tableOf text t) ≡ true
 
 -- What it answers: 01's number and the token of a refusal; or that it passed, and the row has the roles.
 abbrev pub Resolves : Bytes → List ℕ → List ℕ → Table → ℕ → ℕ → Outcome (Unit {0}) → Resolved → Type 0

@@ -24,7 +24,7 @@ ghost use Rattle.rows.specs.Tokens.{Unblocked};
 ghost use Rattle.rows.specs.Agreeing.{NameNoted};
 ghost use Rattle.operators.specs.Entries.{tableBy, tableOf, Sound, IsName};
 ghost use Rattle.declaration_part.specs.Parsing.{nextPlace};
-ghost use Rattle.resolving.specs.Resolving.{codedClass, Ranged, Lawful, OperatorNoted, Unfound, Notes, Resolving};
+ghost use Rattle.resolving.specs.Resolving.{codedClass, Ranged, PermittedTable, OperatorNoted, Unfound, Notes, Resolving};
 ghost use Rattle.resolving.specs.Resolving.{endOf, isNew, isFull, BlockAt, BlockResolving};
 
 // The class of the first token of an item, under the operators of a table.
@@ -37,7 +37,7 @@ pub fn classify<'a>(
     count: usize,
 ) -> Class
     requires { ⌜ ((to : ℕ) × (R : List ℕ) × Ranged (now text) (now tokens) R i to × (i < to))
-        × Lawful (now text) (tableBy (now words) (now hints) count) ⌝ }
+        × PermittedTable (now text) (tableBy (now words) (now hints) count) ⌝ }
     ensures { λ r. ⌜ r ≡ codedClass (now (text .entry)) (now (tokens .entry)) i (now (words .entry)) count ⌝ }
 {
     let kind = tokens::kind(tokens, i);
@@ -150,7 +150,7 @@ fn note<'a>(
     roles: &mut [u16],
 ) -> Item
     requires { ⌜ ((to : ℕ) × Ranged (now text) (now tokens) (now roles) i to × (i < to))
-        × Lawful (now text) (tableBy (now words) (now hints) count) ⌝ }
+        × PermittedTable (now text) (tableBy (now words) (now hints) count) ⌝ }
     ensures { λ r. ⌜ Notes (now (text .entry)) (now (tokens .entry))
         (tableOf (now (text .entry)) (tableBy (now (words .entry)) (now (hints .entry)) count)) (now (roles .entry)) i (now (roles .exit)) r ⌝ }
 {
@@ -197,7 +197,7 @@ pub fn resolve<'a>(
     count: usize,
     roles: &mut [u16],
 ) -> Resolved
-    requires { ⌜ Ranged (now text) (now tokens) (now roles) from to × Lawful (now text) (tableBy (now words) (now hints) count) ⌝ }
+    requires { ⌜ Ranged (now text) (now tokens) (now roles) from to × PermittedTable (now text) (tableBy (now words) (now hints) count) ⌝ }
     ensures { λ r. ⌜ Resolving (now (text .entry)) (now (tokens .entry))
         (tableOf (now (text .entry)) (tableBy (now (words .entry)) (now (hints .entry)) count)) from to
         (now (roles .entry)) (now (roles .exit)) r ⌝ }
@@ -238,7 +238,7 @@ pub const RESERVED_OPERATOR: u8 = 17;
 
 pub const TOO_MANY_OPERATORS: u8 = 9;
 
-pub const UNLAWFUL: u8 = 10;
+pub const NOT_PERMITTED: u8 = 10;
 
 // Whether there is no room for a name that was looked for.
 fn is_full(count: usize, found: Found) -> bool
@@ -280,7 +280,7 @@ fn resolve_block<'a>(
 ) -> Resolved
     requires { ⌜ BlockAt (now tokens) from (closer (now tokens) from) (endOf (now tokens) from)
         × Ranged (now text) (now tokens) (now roles) (suc (closer (now tokens) from)) (endOf (now tokens) from)
-        × Lawful (now text) (tableBy (now words) (now hints) count) ⌝ }
+        × PermittedTable (now text) (tableBy (now words) (now hints) count) ⌝ }
     ensures { λ r. ⌜ BlockResolving (now (text .entry)) (now (tokens .entry))
         (tableOf (now (text .entry)) (tableBy (now (words .entry)) (now (hints .entry)) count)) from (closer (now (tokens .entry)) from)
         (endOf (now (tokens .entry)) from) (now (roles .entry)) (now (roles .exit)) r ⌝ }
@@ -295,7 +295,7 @@ fn resolve_block<'a>(
         hints: *hints,
         count,
     };
-    let mut lawful = true;
+    let mut permitted = true;
     let mut place = walk::next_at(text, tokens::start(tokens, from), 3);
     let mut at = from + 1;
     while at < body {
@@ -329,7 +329,7 @@ fn resolve_block<'a>(
                     };
                 }
                 if !is_new(found) {
-                    lawful = false;
+                    permitted = false;
                 }
                 t = t.declare(found, operator, size, table::hash(name), fixity, role);
                 place = behind_semicolon(text, operator, size);
@@ -353,10 +353,10 @@ fn resolve_block<'a>(
         }
     }
     let n = t.count;
-    if !lawful {
-        if !table::all_lawful(&t.words, n) {
+    if !permitted {
+        if !table::is_permitted(&t.words, n) {
             return Resolved::Refused {
-                number: UNLAWFUL,
+                number: NOT_PERMITTED,
                 at: body,
             };
         }

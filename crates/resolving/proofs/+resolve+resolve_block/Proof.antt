@@ -11,7 +11,7 @@ use borrow.Fn.Kinds.{In}
 use borrow.Fn.PlainCycle.{Measures, is, falls, and}
 use lib.ListN.{length, take, drop}
 use Rattle.grammar.specs.Outcome.{refused}
-use Rattle.grammar.specs.Operator.{lawfulTable}
+use Rattle.grammar.specs.Operator.{permitted}
 use Rattle.grammar.specs.Declaration.{declaration, isReserved}
 use Rattle.grammar.proofs.Logic.{clash}
 use Rattle.rows.specs.Fields.{closer, Within}
@@ -56,8 +56,8 @@ use Rattle.resolving.proofs.DeclarationLoop.{
   cleared-places,
   cleared-reserved,
   cleared-over,
-  lawful-passes,
-  unlawful-refuses,
+  kept-passes,
+  broken-refuses,
 }
 use Rattle.resolving.proofs.Declared.{RoleAt, ClearsAt, role-at, clears-at}
 use Rattle.resolving.proofs.resolve.Reads as resolve
@@ -71,7 +71,7 @@ use Rattle.declaration_part.proofs.walk.next_at.Reads as next-at-reads
 use Rattle.declaration_part.proofs.walk.token_at.Reads as token-at-reads
 use Rattle.operators.proofs.table.Table.clear.Reads as clear-reads
 use Rattle.operators.proofs.table.Table.declare.Reads as declare-reads
-use Rattle.operators.proofs.table.all_lawful.Reads as all-lawful-reads
+use Rattle.operators.proofs.table.is_permitted.Reads as is-permitted-reads
 use Rattle.operators.proofs.table.find.Reads as find-reads
 use Rattle.operators.proofs.table.hash.Reads as hash-reads
 use Rattle.resolving.proofs.behind_semicolon.Reads as behind-semicolon-reads
@@ -319,11 +319,11 @@ module _ (t : ℕ) where
   returns-3 c = finished (c .before .loop .inv) (c .loop-test .left)
 
 abbrev Inv-declarations : resolve-block-lts.InvT-loop
-Inv-declarations text tokens from words hints count R body end t₀ lawful₀ place₀ at₀ t lawful place at =
-    Entering text tokens (tableOf text (tableBy words hints count)) from (closer tokens from) t lawful place at
+Inv-declarations text tokens from words hints count R body end t₀ permitted₀ place₀ at₀ t permitted place at =
+    Entering text tokens (tableOf text (tableBy words hints count)) from (closer tokens from) t permitted place at
 
 abbrev μ-declarations : resolve-block-lts.MeasureT-loop
-μ-declarations text tokens from words hints count R body end t₀ lawful₀ place₀ at₀ t lawful place at = body - at
+μ-declarations text tokens from words hints count R body end t₀ permitted₀ place₀ at₀ t permitted place at = body - at
 
 abbrev block-calls : ℕ → resolve-block-lts.Claims
 block-calls t = (
@@ -357,8 +357,8 @@ block-calls t = (
   behind-semicolon-reads.Learnt,
   clear-reads.Asked,
   clear-reads.Learnt,
-  all-lawful-reads.Asked,
-  all-lawful-reads.Learnt,
+  is-permitted-reads.Asked,
+  is-permitted-reads.Learnt,
 )
 
 module _ (t : ℕ) where
@@ -417,7 +417,7 @@ module _ (t : ℕ) where
       let d = r .before .before .before in
       let s = block-entry d in
       let h = s .pre .1 .2 in
-      answers-body _ _ _ _ _ _ (h .sound) (answer-none _ _ _ _ _ (sym (opened d) ∙ r .before .before .if1 .taken) (h .lawful)) _ _ _ _
+      answers-body _ _ _ _ _ _ (h .sound) (answer-none _ _ _ _ _ (sym (opened d) ∙ r .before .before .if1 .taken) (h .kept)) _ _ _ _
       (opened d) (ended d) (r .resolve .ensures)
 
   block-same-length : resolve-block-lts.Need-same-length (block-calls t) (resolve-block-at t) resolve-block.Post Inv-declarations μ-declarations
@@ -640,7 +640,7 @@ module _ (t : ℕ) where
   still :
       (c : resolve-block-lts.Joined4 (block-calls t) (resolve-block-at t) resolve-block.Post Inv-declarations μ-declarations)
       → let f = c .before .before .before .before in
-      c .if4 .lawful ≡ true → (role-turn (operator-of f) .before .loop .lawful ≡ true) × (isNew (f .find .result) ≡ true)
+      c .if4 .permitted ≡ true → (role-turn (operator-of f) .before .loop .permitted ≡ true) × (isNew (f .find .result) ≡ true)
   still c z =
       ⊎-elim
       (λ w. absurd (clash z (w .1)))
@@ -799,8 +799,8 @@ module _ (t : ℕ) where
       closer (a .tokens .now) (a .from) ≤ c .before .loop .at
   at-in c = omega (arith, c .loop-test .left, opened (block-of (c .before)))
 
-  block-all-lawful-requires : resolve-block-lts.Need-all-lawful-requires (block-calls t) (resolve-block-at t) resolve-block.Post Inv-declarations μ-declarations
-  block-all-lawful-requires c κs = let w = c .before .before .before .before in (_, w .loop .t .hints, w .loop .inv .sound)
+  block-is-permitted-requires : resolve-block-lts.Need-is-permitted-requires (block-calls t) (resolve-block-at t) resolve-block.Post Inv-declarations μ-declarations
+  block-is-permitted-requires c κs = let w = c .before .before .before .before in (_, w .loop .t .hints, w .loop .inv .sound)
 
   block-returns-6 : resolve-block-lts.Need-returns-6 (block-calls t) (resolve-block-at t) resolve-block.Post Inv-declarations μ-declarations
   unfolding tableOf
@@ -808,12 +808,12 @@ module _ (t : ℕ) where
       let l = c .before .before .before .before .before in
       let w = l .before in
       answers-refused _ _ _ _ _ _ _ _ _
-      (unlawful-refuses (w .loop .inv) (at-in l) (failed (c .before .all-lawful .ensures _) (c .if7 .taken)) ∙ ap (refused 10) (sym (opened (block-of w))))
+      (broken-refuses (w .loop .inv) (at-in l) (failed (c .before .is-permitted .ensures _) (c .if7 .taken)) ∙ ap (refused 10) (sym (opened (block-of w))))
 
   met :
       (c : resolve-block-lts.Joined6 (block-calls t) (resolve-block-at t) resolve-block.Post Inv-declarations μ-declarations)
       → let w = c .before .before in
-      lawfulTable (tableOf (block-entry (block-of w) .args .text .now) (w .loop .t)) ≡ true
+      permitted (tableOf (block-entry (block-of w) .args .text .now) (w .loop .t)) ≡ true
   unfolding tableOf
   met c = ⊎-elim (λ j. held (j .3 .ensures _) (j .4 .left)) (λ j. c .before .before .loop .inv .meets (held refl (j .left))) (c .if6 .came)
 
@@ -826,7 +826,7 @@ module _ (t : ℕ) where
       let w = j .before .before in
       let d = block-of w in (
         body-falls d,
-        (body-ranged (opened d) (ended d) (block-entry d .pre .1 .1), record { sound = w .loop .inv .sound; lawful = met j }),
+        (body-ranged (opened d) (ended d) (block-entry d .pre .1 .1), record { sound = w .loop .inv .sound; kept = met j }),
       )
 
   block-returns-7 : resolve-block-lts.Need-returns-7 (block-calls t) (resolve-block-at t) resolve-block.Post Inv-declarations μ-declarations
@@ -836,7 +836,7 @@ module _ (t : ℕ) where
       let l = j .before in
       let w = l .before in
       let d = block-of w in
-      answers-body _ _ _ _ _ _ (w .loop .inv .sound) (lawful-passes (w .loop .inv) (at-in l) (met j)) _ _ _ _ (opened d) (ended d) (r .resolve2 .ensures)
+      answers-body _ _ _ _ _ _ (w .loop .inv .sound) (kept-passes (w .loop .inv) (at-in l) (met j)) _ _ _ _ (opened d) (ended d) (r .resolve2 .ensures)
 
   block-same-length-2 : resolve-block-lts.Need-same-length-2 (block-calls t) (resolve-block-at t) resolve-block.Post Inv-declarations μ-declarations
   block-same-length-2 c = block-returns-7 c .kept .long
@@ -921,7 +921,7 @@ pub +resolve+resolve-block-spec : {M : Type 1} → statement M
     (block-add-at-3 t)
     (block-loop-less-2 t)
     (block-loop-again-2 t)
-    (block-all-lawful-requires t)
+    (block-is-permitted-requires t)
     (block-returns-6 t)
     (block-add-resolve-2 t)
     (block-resolve-requires-2 t)

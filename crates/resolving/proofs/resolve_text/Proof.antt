@@ -1,11 +1,11 @@
--- Without blocks every token has the roles that it starts with. With blocks, the table made is that of the starting operators, which meet
--- the conditions.
+-- Without blocks every token has the roles that it starts with. With blocks, the table made is that of the starting operators, which keep
+-- the overloading rule.
 use mathlib.Core.Path.{refl, ap, subst, _∙_}
 use borrow.Author.Needs.{needs}
-use Rattle.grammar.specs.Operator.{lawfulTable}
+use Rattle.grammar.specs.Operator.{permitted}
 use Rattle.grammar.specs.Declaration.{startTable}
 use Rattle.grammar.proofs.Operators.{distinct-start}
-use Rattle.grammar.proofs.ConditionsTest.{conditions-complete, conditions-start}
+use Rattle.grammar.proofs.OverloadingTest.{permitted-complete, permitted-start}
 use Rattle.rows.specs.Tokens.{Unblocked}
 use Rattle.operators.proofs.Roles.{failed}
 use Rattle.resolving.specs.Resolving.{Resolving}
@@ -33,7 +33,7 @@ resolve-requires : tie.Need-resolve-requires
 resolve-requires c κs =
     let n = c .before .before .before .before in
     let (sound, table) = n .new .ensures _ in
-    (n .before .before .before .before .before .pre .0, record { sound = sound; lawful = ap lawfulTable table ∙ conditions-complete startTable distinct-start conditions-start })
+    (n .before .before .before .before .before .pre .0, record { sound = sound; kept = ap permitted table ∙ permitted-complete startTable distinct-start permitted-start })
 
 same-length : tie.Need-same-length
 same-length c = search needs

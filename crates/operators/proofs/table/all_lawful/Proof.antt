@@ -3,24 +3,24 @@ use mathlib.Core.Path.{_≡_, sym, _∙_}
 use mathlib.Core.List.{List}
 use Prim.Native.Nat.{ℕ, _-_, _≤_}
 use borrow.Author.Needs.{needs}
-use Rattle.grammar.specs.Operator.{lawful, lawfulTable}
+use Rattle.grammar.specs.Operator.{lawful, everyOperator}
 use Rattle.rows.specs.Codes.{rolesOf}
 use Rattle.operators.specs.Entries.{word, operatorsFrom}
 use Rattle.operators.proofs.Roles.{failed, held}
-use Rattle.operators.proofs.TableEntries.{lawful-all, lawful-not, lawful-next, lawful-end}
+use Rattle.operators.proofs.TableEntries.{every-all, every-not, every-next, every-end}
 use Rattle.operators.proofs.table.all_lawful.Statement.{statement}
 use Rattle.operators.proofs.table.all_lawful.Tie as tie
 
 abbrev Inv-loop : tie.InvT-loop
 Inv-loop words count i₀ i =
     (i ≤ count)
-    × ((text : List ℕ) → lawfulTable (operatorsFrom text words 0 count) ≡ lawfulTable (operatorsFrom text words i (count - i)))
+    × ((text : List ℕ) → everyOperator lawful (operatorsFrom text words 0 count) ≡ everyOperator lawful (operatorsFrom text words i (count - i)))
 
 abbrev μ-loop : tie.MeasureT-loop
 μ-loop words count i₀ i = count - i
 
 loop-holds : tie.Need-loop-holds Inv-loop μ-loop
-loop-holds c = (search needs, λ text. lawful-all text _ _)
+loop-holds c = (search needs, λ text. every-all lawful text _ _)
 
 prefix-requires : tie.Need-prefix-requires Inv-loop μ-loop
 prefix-requires c κs = search needs
@@ -50,7 +50,7 @@ judged c =
 returns : tie.Need-returns Inv-loop μ-loop
 returns c text =
     let at = c .before .before .before .before .before in
-    sym (at .before .loop .inv .1 text ∙ lawful-not text _ _ _ (at .loop-test .taken) (failed (judged (c .before)) (c .if1 .taken)))
+    sym (at .before .loop .inv .1 text ∙ every-not lawful text _ _ _ (at .loop-test .taken) (failed (judged (c .before)) (c .if1 .taken)))
 
 add-i : tie.Need-add-i Inv-loop μ-loop
 add-i c = search needs
@@ -62,11 +62,11 @@ loop-again : tie.Need-loop-again Inv-loop μ-loop
 loop-again c =
     let at = c .before .before .before .before .before in (
       search needs,
-      λ text. at .before .loop .inv .1 text ∙ lawful-next text _ _ _ (at .loop-test .taken) (held (judged (c .before)) (c .if1 .left)),
+      λ text. at .before .loop .inv .1 text ∙ every-next lawful text _ _ _ (at .loop-test .taken) (held (judged (c .before)) (c .if1 .left)),
     )
 
 returns-2 : tie.Need-returns-2 Inv-loop μ-loop
-returns-2 c text = sym (c .before .loop .inv .1 text ∙ lawful-end text _ _ _ (c .loop-test .left))
+returns-2 c text = sym (c .before .loop .inv .1 text ∙ every-end lawful text _ _ _ (c .loop-test .left))
 
 pub all-lawful-spec : {M : Type 1} → statement M
 all-lawful-spec =
