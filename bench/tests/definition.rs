@@ -13,34 +13,53 @@ enum Side {
 }
 use Side::{Left, Non, Right};
 
-/// Prefix, infix, postfix.
-#[derive(Clone, Copy)]
-struct Mark {
-    level: u32,
-    sides: [Option<Side>; 3],
+/// Level and side as prefix, infix and postfix.
+type Mark = [Option<(u32, Side)>; 3];
+
+/// Which tables: those whose marks all satisfy the four conditions, and those
+/// in which no mark has both an infix and a postfix role (document 02,
+/// section 2).
+#[derive(Clone, Copy, PartialEq)]
+enum Sort {
+    Conditions,
+    Apart,
 }
 
-/// Rules 2 to 4 of the check at `in`.
+/// Conditions 2 to 4 of the check at `in`.
 fn allowed([prefix, infix, postfix]: [Option<Side>; 3]) -> bool {
     let only = |side: Option<Side>, wanted| side.is_none() || side == Some(wanted);
     match infix {
-        None => prefix.is_some() || postfix.is_some(),
+        None => true,
         Some(Non) => only(prefix, Non) && only(postfix, Non),
         Some(Left) => only(prefix, Non) && only(postfix, Left),
         Some(Right) => only(prefix, Right) && postfix.is_none(),
     }
 }
 
-fn random_mark(random: &mut Random, levels: u64) -> Mark {
+fn random_mark(random: &mut Random, levels: u64, sort: Sort) -> Mark {
     const PREFIX: [Option<Side>; 3] = [None, Some(Non), Some(Right)];
     const INFIX: [Option<Side>; 4] = [None, Some(Non), Some(Left), Some(Right)];
     const POSTFIX: [Option<Side>; 3] = [None, Some(Non), Some(Left)];
     loop {
         let sides = [*random.pick(&PREFIX), *random.pick(&INFIX), *random.pick(&POSTFIX)];
-        if allowed(sides) {
-            return Mark { level: 1 + random.below(levels) as u32, sides };
+        let fits = match sort {
+            Sort::Conditions => allowed(sides),
+            Sort::Apart => sides[1].is_none() || sides[2].is_none(),
+        };
+        if !fits || sides == [None; 3] {
+            continue;
         }
+        let common = 1 + random.below(levels) as u32;
+        return sides.map(|side| {
+            let own = 1 + random.below(levels) as u32;
+            side.map(|side| (if sort == Sort::Apart { own } else { common }, side))
+        });
     }
+}
+
+fn random_marks(random: &mut Random, count: u64, levels: u64) -> Vec<Mark> {
+    let sort = *random.pick(&[Sort::Conditions, Sort::Apart]);
+    (0..count).map(|_| random_mark(random, levels, sort)).collect()
 }
 
 /// The shape has for each node what it is, its item's position and its level.
@@ -62,27 +81,28 @@ fn trees(marks: &[Mark], items: &[u64], from: usize, to: usize) -> Vec<Tree> {
         if items[at] == LEAF {
             continue;
         }
-        let Mark { level, sides } = marks[items[at] as usize];
-        let on_right = |side, t: &Tree| t.level < level || t.level == level && side == Right;
-        let on_left = |side, t: &Tree| t.level < level || t.level == level && side == Left && !t.right;
+        let mark = marks[items[at] as usize];
+        let on_right = |(level, side), t: &Tree| t.level < level || t.level == level && side == Right;
+        let on_left =
+            |(level, side), t: &Tree| t.level < level || t.level == level && side == Left && !t.right;
         let before = || trees(marks, items, from, at);
         let after = || trees(marks, items, at + 1, to);
-        if let (Some(side), true) = (sides[0], at == from) {
-            for t in after().iter().filter(|t| on_right(side, t)) {
+        if let (Some(role @ (level, side)), true) = (mark[0], at == from) {
+            for t in after().iter().filter(|t| on_right(role, t)) {
                 let shape = format!("(3@{at}:{level} {})", t.shape);
                 found.push(Tree { level, right: side == Right, shape });
             }
         }
-        if let Some(side) = sides[1] {
-            for l in before().iter().filter(|t| on_left(side, t)) {
-                for r in after().iter().filter(|t| on_right(side, t)) {
+        if let Some(role @ (level, side)) = mark[1] {
+            for l in before().iter().filter(|t| on_left(role, t)) {
+                for r in after().iter().filter(|t| on_right(role, t)) {
                     let shape = format!("(4@{at}:{level} {} {})", l.shape, r.shape);
                     found.push(Tree { level, right: side == Right, shape });
                 }
             }
         }
-        if let (Some(side), true) = (sides[2], at + 1 == to) {
-            for t in before().iter().filter(|t| on_left(side, t)) {
+        if let (Some(role @ (level, _)), true) = (mark[2], at + 1 == to) {
+            for t in before().iter().filter(|t| on_left(role, t)) {
                 found.push(Tree { level, right: false, shape: format!("(5@{at}:{level} {})", t.shape) });
             }
         }
@@ -94,10 +114,10 @@ fn trees(marks: &[Mark], items: &[u64], from: usize, to: usize) -> Vec<Tree> {
 fn head(marks: &[Mark]) -> String {
     let mut text = String::from("let ");
     for (i, mark) in marks.iter().enumerate() {
-        for (fixity, side) in ["prefix", "infix", "postfix"].iter().zip(mark.sides) {
-            if let Some(side) = side {
-                let side = ["non", "left", "right"][side as usize];
-                write!(text, "{fixity} {side} {} m{i} ; ", mark.level).unwrap();
+        for (fixity, role) in ["prefix", "infix", "postfix"].iter().zip(mark) {
+            if let Some((level, side)) = role {
+                let side = ["non", "left", "right"][*side as usize];
+                write!(text, "{fixity} {side} {level} m{i} ; ").unwrap();
             }
         }
     }
@@ -145,8 +165,8 @@ fn check(marks: &[Mark], head: &str, items: &[u64]) -> bool {
 fn short_spans() {
     let mut random = Random::new(1);
     let mut readable = 0;
-    for _ in 0..150 {
-        let marks: Vec<Mark> = (0..3).map(|_| random_mark(&mut random, 2)).collect();
+    for _ in 0..300 {
+        let marks = random_marks(&mut random, 3, 2);
         let head = head(&marks);
         for len in 0..=6 {
             for code in 0..4u64.pow(len) {
@@ -170,7 +190,7 @@ fn longer_spans() {
     for _ in 0..3000 {
         let count = 1 + random.below(6);
         let levels = 1 + random.below(4);
-        let marks: Vec<Mark> = (0..count).map(|_| random_mark(&mut random, levels)).collect();
+        let marks = random_marks(&mut random, count, levels);
         let head = head(&marks);
         for _ in 0..60 {
             let len = 5 + random.below(7);

@@ -58,6 +58,11 @@ fn start() -> Vec<Operator> {
     ]
 }
 
+fn is_apart(roles: &Roles) -> bool {
+    roles[1].is_none() || roles[2].is_none()
+}
+
+/// The four conditions.
 fn is_consistent(roles: &Roles) -> bool {
     let mut precedences = roles.iter().flatten().map(|role| role.0);
     let first = precedences.next();
@@ -259,19 +264,27 @@ impl Rules<'_> {
         tokens.extend(["plain", name, ";"].map(|token| token.into()));
     }
 
-    /// Declares operators that break the overloading rules anew.
+    /// Keeps the overloading rule: where an operator is both infix and
+    /// postfix, declares all such operators anew, or all that break the four
+    /// conditions.
     fn repair(&mut self, tokens: &mut Tokens) {
-        let broken = self.operators.iter().filter(|operator| !is_consistent(&operator.roles));
+        if self.operators.iter().all(|operator| is_apart(&operator.roles)) {
+            return;
+        }
+        let apart = self.random.one_in(3);
+        let kept = if apart { is_apart } else { is_consistent };
+        let broken = self.operators.iter().filter(|operator| !kept(&operator.roles));
         let broken: Vec<&str> = broken.map(|operator| operator.name).collect();
         for name in broken {
             self.make_plain(name, tokens);
-            let precedence = self.precedence();
+            let common = self.precedence();
             for _ in 0..self.random.below(5) {
                 let fixity = self.random.index(3);
+                let precedence = if apart { self.precedence() } else { common };
                 let role = (precedence, *self.random.pick(SIDES[fixity]));
                 let mut roles = self.operator(name).roles;
                 roles[fixity] = Some(role);
-                if is_consistent(&roles) {
+                if kept(&roles) {
                     self.declare(name, fixity, role, tokens);
                 }
             }
