@@ -4,8 +4,8 @@
 #include <stdio.h>
 #include <string.h>
 
-#if RULE_READER_VERSION < 40000 || RULE_READER_VERSION >= 50000
-#error "written for version 4 of rule_reader.h"
+#if RULE_READER_VERSION < 50000 || RULE_READER_VERSION >= 60000
+#error "written for version 5 of rule_reader.h"
 #endif
 
 /* By number; 14 to 16 are not given. */

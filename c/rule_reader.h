@@ -41,16 +41,16 @@
  *   - MINOR: something is added to this header, and all that was there stays;
  *   - PATCH: neither this header's declarations nor any result has changed.
  * CHANGELOG.md says for each version what a program has to change. Since 4.0.0 a node has one word more, its precedence, so a
- * program for an earlier version must be changed and compiled anew.
+ * program for an earlier version must be changed and compiled anew. Since 5.0.0 more rules are read (RULE_BAD_OVERLOADING).
  *
- * RULE_READER_VERSION is one number to compare, 40000 for 4.0.0. Headers before 4.0.0 do not define it, and #if takes it as 0. So a
+ * RULE_READER_VERSION is one number to compare, 50000 for 5.0.0. Headers before 4.0.0 do not define it, and #if takes it as 0. So a
  * program says at compile time for which version it was written:
  *
- *     #if RULE_READER_VERSION < 40000 || RULE_READER_VERSION >= 50000
- *     #error "written for version 4 of rule_reader.h"
+ *     #if RULE_READER_VERSION < 50000 || RULE_READER_VERSION >= 60000
+ *     #error "written for version 5 of rule_reader.h"
  *     #endif
  */
-#define RULE_READER_VERSION_MAJOR 4
+#define RULE_READER_VERSION_MAJOR 5
 #define RULE_READER_VERSION_MINOR 0
 #define RULE_READER_VERSION_PATCH 0
 #define RULE_READER_VERSION \
@@ -83,7 +83,7 @@ enum rule_number {
     RULE_TOO_DEEP = 7,               /* brackets and blocks are more than 32 deep; the opener */
     RULE_BAD_DECLARATION = 8,        /* a declaration is malformed, or its precedence is not 1 to 1200; the first unfit token */
     RULE_TOO_MANY_OPERATORS = 9,     /* a 65th operator is in force; the operator */
-    RULE_BAD_OVERLOADING = 10,       /* the roles of an operator do not go together; the `in` */
+    RULE_BAD_OVERLOADING = 10,       /* an operator is both infix and postfix, and one breaks the four conditions; the `in` */
     RULE_NO_TREE = 11,               /* a span has no tree; 0 for the whole text, the `(`, or the `in`. A blank rule is read */
     RULE_TABLE_TOO_SHORT = 12,       /* rule_read: the node table has fewer than RULE_NODE_WORDS words for each node; 0 */
     RULE_CANONICAL_TOO_LONG = 13,    /* rule_canonicalize: the canonical text is over the buffer or 16,384 bytes; 0 */

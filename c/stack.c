@@ -189,8 +189,10 @@ static void try_nested(void)
     row("32 nested blocks, a bad declaration inside", RULE_BAD_DECLARATION);
     nested_blocks(31, "let plain and ; in a end");
     row("32 nested blocks, a reserved operator declared inside", RULE_RESERVED_OPERATOR);
-    nested_blocks(31, "let infix right 400 - ; in a end");
+    nested_blocks(31, "let infix left 7 x ; postfix left 8 x ; in a end");
     row("32 nested blocks, bad overloading inside", RULE_BAD_OVERLOADING);
+    nested_blocks(31, "let prefix right 200 - ; infix left 500 - ; in a - - b end");
+    row("32 nested blocks, two precedences of an operator inside", RULE_READ);
     nested_blocks(32, "a a");
     row("32 nested blocks, no tree inside", RULE_NO_TREE);
 }

@@ -14,8 +14,8 @@
 #include <sys/mman.h>
 #include <unistd.h>
 
-#if RULE_READER_VERSION < 40000 || RULE_READER_VERSION >= 50000
-#error "written for version 4 of rule_reader.h"
+#if RULE_READER_VERSION < 50000 || RULE_READER_VERSION >= 60000
+#error "written for version 5 of rule_reader.h"
 #endif
 
 _Static_assert(RULE_NODE_WORDS == 6 && RULE_NODE_PRECEDENCE == RULE_NODE_WORDS - 1, "six words to a node, the precedence last");
@@ -310,6 +310,9 @@ static const char *const texts[] = {
     "let infix left 350 s ; postfix left 350 s ; in a s - b end",
     "let infix left 300 - ; prefix non 300 - ; in a end",
     "let infix right 400 - ; in a end",
+    "let infix left 7 x ; postfix left 7 x ; infix right 400 - ; in a end",
+    "let infix left 500 - ; in let infix left 7 x ; postfix left 7 x ; in a end end",
+    "let prefix right 200 - ; infix left 500 - ; in - 1 - ( - ( - 1 ) ) end",
     "let infix left 0 + ; in a end",
     "let plain * ; infix left 0650 && ; in * && ( let in 'x y' end ) && '*' end or 000",
     "let infix left 0700 and ; plain or ; in a end",
@@ -416,7 +419,12 @@ static void try_limits(void)
     repeat("let infix left 1200 r ; in a end", 1); expect(RULE_READ, 0, 2);
     repeat("let infix left 1201 r ; in a end", 1); expect(RULE_BAD_DECLARATION, 15, 0);
     repeat("let infix left 0 + ; in a end", 1); expect(RULE_BAD_DECLARATION, 15, 0);
-    repeat("let infix right 400 - ; in a end", 1); expect(RULE_BAD_OVERLOADING, 24, 0);
+    repeat("let infix right 400 - ; in a end", 1); expect(RULE_READ, 0, 2);
+    repeat("let infix left 7 x ; postfix left 8 x ; in a end", 1); expect(RULE_BAD_OVERLOADING, 40, 0);
+    repeat("let infix left 7 x ; postfix left 7 x ; in a x x b end", 1); expect(RULE_READ, 0, 5);
+    repeat("let infix left 7 x ; postfix left 7 x ; infix right 400 - ; in a end", 1); expect(RULE_BAD_OVERLOADING, 60, 0);
+    repeat("let infix left 500 - ; in let infix left 7 x ; postfix left 7 x ; in a end end", 1); expect(RULE_BAD_OVERLOADING, 66, 0);
+    repeat("let prefix right 200 - ; infix left 500 - ; in - 1 - - 1 end", 1); expect(RULE_READ, 0, 6);
     repeat("let plain and ; in a end", 1); expect(RULE_RESERVED_OPERATOR, 10, 0);
     repeat("let infix left 700 and ; in a end", 1); expect(RULE_RESERVED_OPERATOR, 19, 0);
     repeat("let prefix right 600 not ; in not a end", 1); expect(RULE_RESERVED_OPERATOR, 21, 0);

@@ -192,7 +192,7 @@ fn empty_block_body() {
     refused(6, "let in", "");
     refused(6, "let ", "end");
     refused(8, "let plain ", "in end");
-    refused(10, "let infix right 400 - ; ", "in end");
+    refused(10, "let infix left 7 x ; postfix left 8 x ; ", "in end");
     refused(17, "let plain ", "and ; in end");
     // A name is enough of a body.
     assert_eq!(listing::reading(b"let in a end"), "read 2\n0 name 0 0 7 1 0\n1 block 0 0 0 6 0\n");

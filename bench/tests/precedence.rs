@@ -184,8 +184,9 @@ fn several_roles() {
     // A third one beside them.
     let text = "let postfix left 400 - ; in - a - b - end";
     has_operators(text, &[(PREFIX, "-", 400), (INFIX, "-", 400), (POSTFIX, "-", 400)]);
-    let answer = read(b"let infix left 400 s ; prefix non 300 s ; in s a end", &mut [0; TABLE_WORDS]);
-    assert_eq!((answer.number, answer.offset), (10, 42));
+    // Two precedences: that of the role in use (document 02, section 2).
+    let text = "let infix left 400 s ; prefix non 300 s ; in s a s s b end";
+    has_operators(text, &[(PREFIX, "s", 300), (INFIX, "s", 400), (PREFIX, "s", 300)]);
     // T11 and T12: the precedence decides which role `s` has.
     let text = |p| format!("let infix left {p} s ; postfix left {p} s ; in a s - b end");
     has_operators(&text(450), &[(INFIX, "s", 450), (PREFIX, "-", 400)]);

@@ -131,9 +131,9 @@ fn other_names() {
             refused(8, &format!("let {form} {name} "), "in a end");
         }
     }
-    // `-` has two roles: a role that does not go with the other is 10.
-    is_read("let plain - ; in a end");
-    refused(10, "let infix right 400 - ; ", "in a end");
+    // `+` is infix: a postfix role that does not go with it is 10.
+    is_read("let plain + ; in a end");
+    refused(10, "let postfix left 300 + ; ", "in a end");
 }
 
 /// In one declaration part: the first declaration with a fault, then 10.
@@ -149,10 +149,10 @@ fn order_in_a_part() {
     // 17, 17.
     refused(17, "let infix left 1 ", "or ; plain and ; in a end");
     // 17, 10.
-    refused(17, "let infix right 400 - ; plain ", "and ; in a end");
-    refused(17, "let plain ", "and ; infix right 400 - ; in a end");
+    refused(17, "let postfix left 300 + ; plain ", "and ; in a end");
+    refused(17, "let plain ", "and ; postfix left 300 + ; in a end");
     refused(17, "let infix left 600 ", "not ; in a end");
-    refused(10, "let infix right 400 - ; plain s ; ", "in a end");
+    refused(10, "let postfix left 300 + ; plain s ; ", "in a end");
 }
 
 /// Of 17 and 9 the earlier declaration's is given. No declaration has both:
@@ -190,10 +190,10 @@ fn sixty_fifth_operator() {
 fn order_of_blocks() {
     refused(17, "let plain ", "and ; in let plain ; in a end end");
     refused(8, "let plain ", "; in let plain and ; in a end end");
-    refused(10, "let infix right 400 - ; ", "in let plain and ; in a end end");
+    refused(10, "let postfix left 300 + ; ", "in let plain and ; in a end end");
     refused(17, "let in let plain ", "and ; in a end + let plain ; in a end end");
-    refused(17, "let plain ", "and ; in a end + let infix right 400 - ; in a end");
-    refused(10, "let infix right 400 - ; ", "in a end + let plain and ; in a end");
+    refused(17, "let plain ", "and ; in a end + let postfix left 300 + ; in a end");
+    refused(10, "let postfix left 300 + ; ", "in a end + let plain and ; in a end");
     refused(17, "let in let in a end + let plain ", "or ; in a end end");
 }
 

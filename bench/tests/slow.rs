@@ -157,9 +157,16 @@ fn declare(mut table: Table, tokens: &[Token]) -> Result<Table, Refusal> {
         }
         rest = &rest[5..];
     }
-    if table.values().all(passes) { Ok(table) } else { Err((10, body.start)) }
+    let permitted = !table.values().any(is_both) || table.values().all(passes);
+    if permitted { Ok(table) } else { Err((10, body.start)) }
 }
 
+/// Both infix and postfix.
+fn is_both(roles: &Roles) -> bool {
+    roles[1].is_some() && roles[2].is_some()
+}
+
+/// The four conditions.
 fn passes(roles: &Roles) -> bool {
     let present: Vec<(u32, char)> = roles.iter().flatten().copied().collect();
     let sides = roles.map(|role| role.map_or(' ', |role| role.1));
@@ -187,6 +194,29 @@ struct Reader {
     nodes: Vec<[usize; NODE_WORDS]>,
 }
 
+/// Where no mark of a span is both infix and postfix, each has one role that
+/// it can have there: prefix, or, where an operand ends before it, the other
+/// one. It is left without a role where it does not have that one. Where a
+/// mark is both, all roles of a mark have one level.
+fn in_use(items: &mut [Item]) {
+    if items.iter().any(|item| item.roles.as_ref().is_some_and(is_both)) {
+        return;
+    }
+    let mut operand = false;
+    for item in items {
+        let Some(roles) = &mut item.roles else {
+            operand = true;
+            continue;
+        };
+        let [prefix, infix, postfix] = *roles;
+        *roles = if operand { [None, infix, postfix] } else { [prefix, None, None] };
+        operand &= infix.is_none();
+    }
+}
+
+/// Above every level: such a mark would be the root, and is none.
+const NO_ROLE: u32 = u32::MAX;
+
 /// Root of a tree: node number, level, right-sided.
 type Root = (usize, u32, bool);
 
@@ -198,6 +228,7 @@ impl Reader {
             items.push(Item { at, roles: self.roles[at] });
             at = self.closers.get(&at).map_or(at, |&closer| closer) + 1;
         }
+        in_use(&mut items);
         items
     }
 
@@ -210,7 +241,9 @@ impl Reader {
     /// right-sided where it stands, else the last. Inner spans count as
     /// operands only, unless `deep`.
     fn tree(&mut self, items: &[Item], deep: bool) -> Option<Root> {
-        let level_of = |item: &Item| item.roles.map_or(0, |roles| roles.iter().flatten().next().unwrap().0);
+        let level_of = |item: &Item| {
+            item.roles.map_or(0, |roles| roles.iter().flatten().next().map_or(NO_ROLE, |r| r.0))
+        };
         let level = items.iter().map(level_of).max()?;
         if level == 0 {
             return if items.len() == 1 { Some((self.leaf(items[0].at, deep), 0, false)) } else { None };
