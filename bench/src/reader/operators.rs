@@ -15,7 +15,8 @@ pub fn resolve(text: &[u8], tokens: &mut [Token]) -> Result<(), Reject> {
         match tokens[at].kind {
             Kind::Word | Kind::Sign => {
                 if let Some(operator) = table.operator(&tokens[at]) {
-                    tokens[at].kind = Kind::Operator(operator);
+                    tokens[at].kind = Kind::Operator;
+                    tokens[at].key = operator.0;
                 }
             }
             Kind::Quoted { .. } => {

@@ -25,31 +25,35 @@ pub struct Role {
     pub associativity: Associativity,
 }
 
-/// The role for each fixity that is in force: the precedence in the lower bits,
-/// the associativity above them, 0 where there is none.
+/// The role for each fixity that is in force, 16 bits each: the precedence in
+/// the lower bits, the associativity above them, 0 where there is none.
 #[derive(Clone, Copy, Debug, PartialEq, Eq)]
-pub struct Operator([u16; 3]);
+pub struct Operator(pub u64);
 
-const SHIFT: u32 = 12;
+const ASSOCIATIVITY: u32 = 12;
+
+const fn place(fixity: Fixity) -> u32 {
+    16 * fixity as u32
+}
 
 impl Operator {
-    pub const PLAIN: Operator = Operator([0; 3]);
+    pub const PLAIN: Operator = Operator(0);
 
     #[inline(always)]
     pub const fn get(self, fixity: Fixity) -> Option<Role> {
-        let word = self.0[fixity as usize];
-        let associativity = match word >> SHIFT {
+        let word = (self.0 >> place(fixity)) as u16;
+        let associativity = match word >> ASSOCIATIVITY {
             0 => return None,
             1 => Non,
             2 => Left,
             _ => Right,
         };
-        Some(Role { precedence: word & ((1 << SHIFT) - 1), associativity })
+        Some(Role { precedence: word & ((1 << ASSOCIATIVITY) - 1), associativity })
     }
 
-    pub const fn with(mut self, fixity: Fixity, role: Role) -> Self {
-        self.0[fixity as usize] = (role.associativity as u16) << SHIFT | role.precedence;
-        self
+    pub const fn with(self, fixity: Fixity, role: Role) -> Self {
+        let word = (role.associativity as u64) << ASSOCIATIVITY | role.precedence as u64;
+        Operator(self.0 & !(0xFFFF << place(fixity)) | word << place(fixity))
     }
 
     #[inline(always)]
@@ -65,9 +69,14 @@ impl Operator {
     /// The four conditions. They are asked of every operator in force where
     /// one of them is both infix and postfix.
     pub fn meets_conditions(self) -> bool {
-        let roles = || [Prefix, Infix, Postfix].into_iter().filter_map(|fixity| self.get(fixity));
+        let one_precedence = |a, b| match (self.get(a), self.get(b)) {
+            (Some(a), Some(b)) => a.precedence == b.precedence,
+            _ => true,
+        };
         let only = |fixity, wanted| self.get(fixity).is_none_or(|role| role.associativity == wanted);
-        roles().all(|role| roles().all(|other| other.precedence == role.precedence))
+        one_precedence(Prefix, Infix)
+            && one_precedence(Infix, Postfix)
+            && one_precedence(Prefix, Postfix)
             && match self.get(Infix).map(|role| role.associativity) {
                 None => true,
                 Some(Non) => only(Prefix, Non) && only(Postfix, Non),

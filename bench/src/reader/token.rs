@@ -17,7 +17,7 @@ pub enum Kind {
         bare: bool,
     },
     /// A word or sign with a role in force, once resolved.
-    Operator(Operator),
+    Operator,
     /// `(`, with the number of its `)` once linked.
     Open {
         close: u16,
@@ -37,7 +37,8 @@ pub enum Kind {
 
 #[derive(Clone, Copy, Debug)]
 pub struct Token {
-    /// The bytes of a word or sign (see `extend`).
+    /// The bytes of a word or sign (see `extend`); of an operator, once
+    /// resolved, its roles.
     pub key: u64,
     pub start: u16,
     pub len: u8,
@@ -49,6 +50,12 @@ impl Token {
     #[inline(always)]
     pub fn is(&self, word: &[u8]) -> bool {
         self.kind == Kind::Word && self.len as usize == word.len() && self.key == pack(word)
+    }
+
+    /// The roles of a word or sign that has some in force.
+    #[inline(always)]
+    pub fn operator(&self) -> Option<Operator> {
+        (self.kind == Kind::Operator).then_some(Operator(self.key))
     }
 
     pub fn bytes<'t>(&self, text: &'t [u8]) -> &'t [u8] {

@@ -46,8 +46,7 @@ impl Node {
             NodeKind::Postfix => Fixity::Postfix,
             _ => return None,
         };
-        let Kind::Operator(operator) = tokens[self.token as usize].kind else { unreachable!() };
-        operator.get(fixity)
+        tokens[self.token as usize].operator()?.get(fixity)
     }
 }
 
@@ -130,16 +129,15 @@ impl Builder<'_> {
     /// Is an operator that is both infix and postfix the one or the other, by
     /// the token that follows?
     fn is_infix(&self, next: usize, precedence: u16) -> bool {
-        match self.tokens.get(next).map(|next| next.kind) {
-            None | Some(Kind::Close | Kind::End) => false,
-            Some(Kind::Operator(next)) => {
-                let fixities = [Fixity::Prefix, Fixity::Infix, Fixity::Postfix];
-                fixities
-                    .into_iter()
-                    .find_map(|fixity| next.get(fixity))
-                    .is_some_and(|next| next.precedence < precedence)
+        let Some(next) = self.tokens.get(next) else { return false };
+        match next.kind {
+            Kind::Close | Kind::End => false,
+            Kind::Operator => {
+                let role = |fixity| next.operator()?.get(fixity);
+                let role = role(Fixity::Prefix).or(role(Fixity::Infix)).or(role(Fixity::Postfix));
+                role.is_some_and(|role| role.precedence < precedence)
             }
-            Some(_) => true,
+            _ => true,
         }
     }
 
@@ -233,7 +231,7 @@ pub fn build(tokens: &[Token], nodes: &mut List<Node, MAX_TOKENS>) -> Result<(),
         let step = match tokens.get(at).map(|token| token.kind) {
             Some(Kind::Word | Kind::Sign | Kind::Quoted { .. }) => builder.leaf(NodeKind::Name, at),
             Some(Kind::Number) => builder.leaf(NodeKind::Number, at),
-            Some(Kind::Operator(operator)) => builder.operator(at, operator),
+            Some(Kind::Operator) => builder.operator(at, Operator(tokens[at].key)),
             Some(Kind::Open { .. }) => {
                 builder.want_operand().map(|()| builder.open(NodeKind::Bracket, at, at))
             }
