@@ -105,6 +105,7 @@ limits =
     ∷ success (bytes "let infix left 7 x ; postfix left 8 x ; postfix left 7 x ; in a end") 2 67
     ∷ refusal (bytes "let infix left 7 x ; postfix left 8 x ; in a end") 10 40
     ∷ success (bytes "let infix left 300 - ; in a end") 2 31
+    ∷ success (bytes "let infix left 300 - ; prefix non 300 - ; in a end") 2 50
     ∷ success (bytes "let prefix right 200 - ; infix left 500 - ; in a - - b end") 5 58
     -- .. one that is puts all operators in force under the four conditions, those of the outer blocks too.
     ∷ refusal (bytes "let infix left 7 x ; postfix left 7 x ; infix right 400 - ; in a end") 10 60

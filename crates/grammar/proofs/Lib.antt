@@ -19,6 +19,7 @@ pub mod OverloadingTest
 pub mod Climb
 pub mod AdmittingRole
 pub mod WidestRoot
+pub mod TreeOperators
 pub mod Unambiguous
 pub mod ClimbComplete
 pub mod FirstUnfit

@@ -22,15 +22,11 @@ use Rattle.grammar.specs.Fault.{
   unlawful,
   BlockFault,
   FaultUnder,
-  tooLong,
-  inTokens,
-  inNesting,
-  inBlocks,
   Declares,
 }
 use Rattle.grammar.proofs.Declarations.{declarations-first}
 use Rattle.grammar.proofs.DeclarationFaults.{effect-allowed}
-use Rattle.grammar.proofs.RulesAlike.{Alike}
+use Rattle.grammar.proofs.RulesAlike.{Alike, same-block, same-fault}
 
 -- One more declaration behind others.
 more-tokens : (done : List Declaration) (d : Declaration) (rest : List Token) → allTokens (done ++ d ∷ []) ++ rest ≡ allTokens done ++ (declarationTokens d ++ rest)
@@ -101,22 +97,11 @@ module _ (O : Table → Type 0) (R S : Bytes → Bool) (text : Bytes) (agreed : 
 module _ (O : Table → Type 0) (R S : Bytes → Bool) (text : Bytes) (agreed : Agreed R S text) where
   block-fault : {ts : List Token} {n i : ℕ} → Spells text ts → BlockFault (reserving O R) ts n i → BlockFault (reserving O S) ts n i
   block-fault s b =
-      record {
-        table = b .table;
-        number = b .number;
-        part = b .part;
-        at = b .at;
-        block = b .block;
-        fault = part-fault O R S text agreed s (b .block) (b .fault);
-        place = b .place;
-        first = λ T j ds m k c f. b .first T j ds m k c (part-fault O S R text (λ d h. sym (agreed d h)) s c f);
-      }
+      same-block b (part-fault O R S text agreed s (b .block) (b .fault))
+      (λ T j ds m k c f. b .first T j ds m k c (part-fault O S R text (λ d h. sym (agreed d h)) s c f))
 
-  same-fault : {n p : ℕ} → FaultUnder (reserving O R) text n p → FaultUnder (reserving O S) text n p
-  same-fault (tooLong h) = tooLong h
-  same-fault (inTokens h f) = inTokens h f
-  same-fault (inNesting z f t) = inNesting z f t
-  same-fault (inBlocks z o f t) = inBlocks z o (block-fault (z .spelled) f) t
+  fault-also : {n p : ℕ} → FaultUnder (reserving O R) text n p → FaultUnder (reserving O S) text n p
+  fault-also = same-fault (λ ts n i z o b. block-fault (z .spelled) b)
 
 pub reserved-alike : (O : Table → Type 0) (R S : Bytes → Bool) (text : Bytes) → Agreed R S text → Alike (reserving O R) (reserving O S) text
-reserved-alike O R S text agreed n p = (same-fault O R S text agreed, same-fault O S R text (λ d h. sym (agreed d h)))
+reserved-alike O R S text agreed n p = (fault-also O R S text agreed, fault-also O S R text (λ d h. sym (agreed d h)))

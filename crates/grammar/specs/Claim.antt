@@ -9,11 +9,13 @@ use Rattle.grammar.specs.Bytes.{Bytes, All}
 use Rattle.grammar.specs.Token.{keywordLet, keywordIn, structure, characters, spelling, Token}
 use Rattle.grammar.specs.Spelling.{Spells, TokenAt}
 use Rattle.grammar.specs.Declaration.{Declaration, allTokens, startTable, areDeclarations, Free, declareAll}
-use Rattle.grammar.specs.SpanTree.{SpanTree, IsSpanTree}
+use Rattle.grammar.specs.Span.{Item}
+use Rattle.grammar.specs.SpanTree.{SpanTree, missing, operand, apply, IsSpanTree}
+use Rattle.grammar.specs.Climb.{symbolAt}
 use Rattle.grammar.specs.Tree.{Tree, nothing, leaf, bracket, block, node, IsTree, flat, depth}
 use Rattle.grammar.specs.Blank.{Blank, blankRule}
 use Rattle.grammar.specs.Canonical.{canonical, canonicalText, NoSpare}
-use Rattle.grammar.specs.Operator.{Permitted, Table}
+use Rattle.grammar.specs.Operator.{Permitted, Table, inForce}
 use Rattle.grammar.specs.Spans.{startOf, Span, SpanOf}
 use Rattle.grammar.specs.Fault.{Rules, current, PastUnder, Past}
 use Rattle.grammar.specs.Abstract.{Agree}
@@ -49,6 +51,19 @@ BlocksLawful T (bracket t) = BlocksLawful T t
 BlocksLawful T (block ds t) =
     (areDeclarations ds ≡ true) × All Free ds × Permitted (declareAll T ds) × BlocksLawful (declareAll T ds) t
 BlocksLawful T (node l m r) = BlocksLawful T l × BlocksLawful T r
+
+-- The words and signs with a role in force among items, and the operators of a tree of a span, each in their order.
+unfoldable pub inForceAt : Table → Item → List Bytes
+inForceAt T i = elim (symbolAt i) [ none ↦ [] | some w ↦ elim (inForce T w) [ true ↦ w ∷ [] | false ↦ [] ] ]
+
+unfoldable pub operatorsAmong : Table → List Item → List Bytes
+operatorsAmong T [] = []
+operatorsAmong T (i ∷ is) = inForceAt T i ++ operatorsAmong T is
+
+unfoldable pub operatorsOf : SpanTree → List Bytes
+operatorsOf missing = []
+operatorsOf (operand i) = []
+operatorsOf (apply l m r) = operatorsOf l ++ m ∷ operatorsOf r
 
 -- A span without a tree.
 abbrev pub HasNoTree : Span → Type 0

@@ -17,7 +17,7 @@ use Rattle.grammar.specs.Operator.{Fixity, Associativity, Table, role, Conditio
 use Rattle.grammar.specs.Declaration.{declares, startTable, isReserved, value}
 use Rattle.grammar.specs.Spans.{Span, SpanOf}
 use Rattle.grammar.specs.Span.{Item}
-use Rattle.grammar.specs.SpanTree.{SpanTree, IsSpanTree, Admitted, root, rootPrecedence}
+use Rattle.grammar.specs.SpanTree.{SpanTree, IsSpanTree, Admitted, root, rootPrecedence, yield}
 use Rattle.grammar.specs.Tree.{Tree, IsTree}
 use Rattle.grammar.specs.Blank.{Blank}
 use Rattle.grammar.specs.NodePrecedence.{NodePrecedence}
@@ -25,12 +25,13 @@ use Rattle.grammar.specs.Widest.{widest}
 use Rattle.grammar.specs.Abstract.{Agree}
 use Rattle.grammar.specs.Canonical.{strip, stripDeclaration}
 use Rattle.grammar.specs.Fault.{current, withoutReserving, withFourConditions, longestText, Fault, Past, Unreserved, Conditioned}
-use Rattle.grammar.specs.Claim.{BlocksLawful, FirstWithout, EmptyInside, TreeOf, ReadingOf, canonicalTree, canonicalBytes, Faithful}
+use Rattle.grammar.specs.Claim.{BlocksLawful, operatorsAmong, operatorsOf, FirstWithout, EmptyInside, TreeOf, ReadingOf, canonicalTree, canonicalBytes, Faithful}
 use Rattle.grammar.proofs.Numbers as Numbers
 use Rattle.grammar.proofs.StripDeclarations as StripDeclarations
 use Rattle.grammar.proofs.ClimbComplete.{climb-unique}
 use Rattle.grammar.proofs.Unambiguous.{permitted-unambiguous}
 use Rattle.grammar.proofs.WidestRoot.{root-widest}
+use Rattle.grammar.proofs.TreeOperators as TreeOperators
 use Rattle.grammar.proofs.Faults as Faults
 use Rattle.grammar.proofs.BlankTexts as BlankTexts
 use Rattle.grammar.proofs.Rules as Rules
@@ -121,6 +122,10 @@ same-bytes = CanonicalCalls.same-bytes
 pub one-span-tree :
     (T : Table) → Permitted T → (is : List Item) (s u : SpanTree) → IsSpanTree T is s → IsSpanTree T is u → s ≡ u
 one-span-tree T h = climb-unique T (permitted-unambiguous T h)
+
+-- The operators of a tree are the words and signs of the span with a role in force, in their order, and no others, whatever the table.
+pub tree-operators : (T : Table) (s : SpanTree) → Admitted T s → operatorsOf s ≡ operatorsAmong T (yield s)
+tree-operators = TreeOperators.tree-operators
 
 -- "the widest level of a span is sought among roles in use": the root of a tree has the widest precedence of the roles in which its operators
 -- stand, whatever the table. It follows and is not asked besides.
