@@ -181,6 +181,6 @@ pub record Declares (text : Bytes) (d : Declaration) : Type 0 where
 abbrev pub Unreserved : Bytes → Type 0
 Unreserved text = (d : Declaration) → Declares text d → Free d
 
--- The four conditions, asked of every table, do not refuse the text.
+-- With the four conditions asked of every table, row 10 does not hold of the text.
 abbrev pub Conditioned : Bytes → Type 0
 Conditioned text = (p : ℕ) → FaultUnder withFourConditions text 10 p → ⊥
