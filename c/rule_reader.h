@@ -22,8 +22,8 @@
  *
  * Threads. There are no variables outside a call: several threads may call at once, each with a table or buffer of its own.
  *
- * Stack. At most 192 KB for rule_read and 96 KB for rule_canonicalize. Measured on 2026-11-16, not proved, the most found: 171,512
- * bytes for `not` 1,023 times and then a name, and 95,136 bytes for 32 nested blocks. c/stack.c measures it.
+ * Stack. At most 192 KB for rule_read and 96 KB for rule_canonicalize. Measured on 2026-11-17, not proved, the most found: 187,896
+ * bytes for `not` 1,023 times and then a name, and 95,152 bytes for 32 nested blocks. c/stack.c measures it.
  *
  * Division. Neither call divides or takes a remainder, so a processor without an instruction for it needs no routine. c/divisions
  * looks at every function that they call, before it is compiled, and at this archive.

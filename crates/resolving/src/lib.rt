@@ -37,7 +37,7 @@ pub fn classify<'a>(
     count: usize,
 ) -> Class
     requires { ⌜ ((to : ℕ) × (R : List ℕ) × Ranged (now text) (now tokens) R i to × (i < to))
-        × PermittedTable (now text) (tableBy (now words) (now hints) count) ⌝ }
+        × Sound (now text) (tableBy (now words) (now hints) count) ⌝ }
     ensures { λ r. ⌜ r ≡ codedClass (now (text .entry)) (now (tokens .entry)) i (now (words .entry)) count ⌝ }
 {
     let kind = tokens::kind(tokens, i);
@@ -150,7 +150,7 @@ fn note<'a>(
     roles: &mut [u16],
 ) -> Item
     requires { ⌜ ((to : ℕ) × Ranged (now text) (now tokens) (now roles) i to × (i < to))
-        × PermittedTable (now text) (tableBy (now words) (now hints) count) ⌝ }
+        × Sound (now text) (tableBy (now words) (now hints) count) ⌝ }
     ensures { λ r. ⌜ Notes (now (text .entry)) (now (tokens .entry))
         (tableOf (now (text .entry)) (tableBy (now (words .entry)) (now (hints .entry)) count)) (now (roles .entry)) i (now (roles .exit)) r ⌝ }
 {

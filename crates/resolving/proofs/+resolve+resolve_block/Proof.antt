@@ -155,7 +155,7 @@ module _ (t : ℕ) where
       let w = c .before in
       let v = w .before .loop .inv in
       let p = entry w .pre .1 in
-      ((_, ranged-part (p .0) _ (v .kept .long) _ _ (omega arith) (v .paired), w .loop-test .taken), p .1)
+      ((_, ranged-part (p .0) _ (v .kept .long) _ _ (omega arith) (v .paired), w .loop-test .taken), p .1 .sound)
 
   enum-told : resolve-lts.Need-enum-told (calls t) (resolve-at t) resolve.Post Inv-items μ-items
   enum-told c = search needs

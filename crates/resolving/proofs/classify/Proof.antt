@@ -60,7 +60,7 @@ quickly :
 quickly c =
     let s = c .before .before .before in
     let e = entry (first s) in
-    subst (λ m. Quickly (finds s m) (c .find-quickly .result)) (name s) (c .find-quickly .ensures (e .args .text .now) (e .pre .1 .sound))
+    subst (λ m. Quickly (finds s m) (c .find-quickly .result)) (name s) (c .find-quickly .ensures (e .args .text .now) (e .pre .1))
 
 slowly :
     (c : tie.After-find) → let s = c .before .before .before .before .before .before in
@@ -127,7 +127,7 @@ part-name-end : tie.Need-part-name-end
 part-name-end c = omega (arith, ends (c .before))
 
 find-quickly-requires : tie.Need-find-quickly-requires
-find-quickly-requires c κs = let e = entry (first (c .before .before)) in ((e .args .text .now, e .pre .1 .sound), named (c .before))
+find-quickly-requires c κs = let e = entry (first (c .before .before)) in ((e .args .text .now, e .pre .1), named (c .before))
 
 enum-known-entry : tie.Need-enum-known-entry
 enum-known-entry c = search needs
@@ -152,7 +152,7 @@ enum-told-2 c = search needs
 
 find-requires : tie.Need-find-requires
 find-requires c κs =
-    let s = c .before .before .before .before in (entry (first (s .before)) .pre .1 .sound, named s)
+    let s = c .before .before .before .before in (entry (first (s .before)) .pre .1, named s)
 
 enum-known-entry-2 : tie.Need-enum-known-entry-2
 enum-known-entry-2 c = search needs

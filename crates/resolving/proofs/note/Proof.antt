@@ -50,7 +50,7 @@ store-operator-requires c κs =
     let e = entry d in
     let found = says d _ (n .entry .given .1) .1 in (
       roles-within (e .pre .0 .1) (e .pre .0 .2),
-      (_, e .args .hints .now, e .args .count, e .pre .1 .sound, found-below _ (operators d) _ found),
+      (_, e .args .hints .now, e .args .count, e .pre .1, found-below _ (operators d) _ found),
     )
 
 enum-known-start : tie.Need-enum-known-start
@@ -88,7 +88,7 @@ store-name-requires c κs =
     let p = entry d .pre .0 in
     let s = says d _ (n .start .given .1) in (
       roles-within (p .1) (p .2),
-      entry d .pre .1 .sound,
+      entry d .pre .1,
       part-named (p .1) (p .2) (s .0) (s .1) (name-kind (s .2)),
     )
 
@@ -120,7 +120,7 @@ returns c =
     let d = n .before .before in
     let e = entry d in
     let s = says d _ (n .entry .given .1) in
-    symbol-item _ _ _ _ _ _ (s .0) (o .store-operator .ensures _ (e .args .hints .now) _ (e .pre .1 .sound) _ (s .1))
+    symbol-item _ _ _ _ _ _ (s .0) (o .store-operator .ensures _ (e .args .hints .now) _ (e .pre .1) _ (s .1))
 
 same-length-2 : tie.Need-same-length-2
 same-length-2 c = search needs
