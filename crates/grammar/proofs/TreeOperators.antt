@@ -1,9 +1,8 @@
 -- The operators of an admitted tree are the words and signs of its items that have a role in force, in their order: an operand has none, and
 -- an admitted operator has the role in which it stands.
 use mathlib.Core.Path.{_≡_, refl, sym, ap, ap₂, _∙_}
-use mathlib.Core.Bool.{Bool, true, false}
+use mathlib.Core.Bool.{true}
 use mathlib.Core.List.{List, [], _∷_, _++_, append-assoc}
-use mathlib.Core.Option.{none, some}
 use borrow.Author.Tests.{not-true}
 use Rattle.grammar.specs.Bytes.{Bytes}
 use Rattle.grammar.specs.Token.{symbol, number, quoted}

@@ -53,7 +53,7 @@ root T missing = none
 root T (operand i) = none
 root T (apply l m r) = roleOver T l m r
 
--- "Names, numbers, brackets and blocks have level 0; an operator's tree has the level of its mark."
+-- "Names, numbers, brackets and blocks have level 0"; 02, §2: "An operator's tree then has the level of its role".
 unfoldable pub rootPrecedence : Option Role → ℕ
 rootPrecedence none = 0
 rootPrecedence (some r) = r .precedence

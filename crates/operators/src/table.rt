@@ -4,7 +4,7 @@ use rows::role;
 use starting_operators::number;
 ghost use mathlib.Core.Path.{_≡_};
 ghost use mathlib.Core.List.{List};
-ghost use Prim.Native.Nat.{ℕ, _≤_, _<_};
+ghost use Prim.Native.Nat.{ℕ, _<_};
 ghost use Rattle.grammar.specs.Bytes.{Bytes, same};
 ghost use Rattle.grammar.specs.Operator.{lawful, everyOperator, permitted};
 ghost use Rattle.operators.specs.Entries.{word, nameStart, nameSize, nameIn, nameAt, Stands, codedFind, operatorsFrom, tableBy, hashOf, Sound};
