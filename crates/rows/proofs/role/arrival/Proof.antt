@@ -11,7 +11,9 @@ precedence-requires : tie.Need-precedence-requires
 precedence-requires c κs = search needs
 
 add-result : tie.Need-add-result
-add-result c = omega (arith, c .precedence .ensures, precedence-bound _ (c .before .before .pre .1))
+add-result c =
+    let (p, i, q) = c .before .before .pre in
+    omega (arith, c .precedence .ensures, precedence-bound _ p, precedence-bound _ i)
 
 returns : tie.Need-returns
 returns c = rw (c .precedence .ensures, add-one) (sym (arrival-infix _ _ _ (c .before .if1 .taken)))
