@@ -136,8 +136,9 @@ struct rule_answer rule_read(const uint8_t *text, size_t text_length, uint32_t *
 
 /*
  * Writes the canonical text of a text into a buffer: no bracket that means nothing, no leading zeros, no quotes that a name does
- * not need, one space between tokens. `buffer_length` counts bytes. No zero byte is added; bytes behind the canonical text keep
- * their contents. The canonical text of a blank rule is empty, and of no other rule.
+ * not need, one space between tokens. Every bracket in it matters: without one matching pair it is another rule or none.
+ * `buffer_length` counts bytes. No zero byte is added; bytes behind the canonical text keep their contents. The canonical text of a
+ * blank rule is empty, and of no other rule.
  * Gives RULE_READ and the refusals 1 to 11, 13 and 17; 1 to 11 and 17 exactly where rule_read gives them, at the same place.
  * With RULE_BUFFER_BYTES bytes 13 is given only where the canonical text is longer than 16,384 bytes, which no buffer helps.
  */

@@ -1,7 +1,8 @@
 //! What document 01 says of canonical text, each by readings alone: the tree
 //! stays, no bracket and no quote is spare, one space between tokens, no
 //! leading zero. There is only one such text for a tree. By document 02 blank
-//! rules agree with each other and with no other rule.
+//! rules agree with each other and with no other rule, and no text has fewer
+//! tokens than the canonical text of its tree.
 
 use rule_bench::reader::{self, Answer, MAX_BYTES, NODE_WORDS, TABLE_WORDS};
 use rule_bench::texts::{Random, Texts};
@@ -10,7 +11,7 @@ use std::collections::HashMap;
 /// A tree without its brackets: names by characters, numbers by value,
 /// operators by bytes, declarations by tokens. `Blank` stands for a blank
 /// rule, which has none.
-#[derive(Debug, PartialEq)]
+#[derive(Debug, PartialEq, Eq, Hash)]
 enum Tree {
     Blank,
     Name(Vec<u8>),
@@ -240,6 +241,50 @@ fn texts_that_agree() {
 
 /// The canonical text goes to the front of a buffer that holds it; else 13,
 /// and no byte changes.
+/// Declarations of `p` and `q`: operators of one precedence that differ in
+/// associativity, operators of several roles, and, as document 02, section 2,
+/// has them, roles that differ in precedence.
+const DECLARATIONS: [&str; 10] = [
+    "infix left 5 p ; infix left 5 q ;", "infix right 5 p ; infix left 5 q ;",
+    "infix non 5 p ; infix right 6 q ;", "prefix right 5 p ; infix left 5 q ;",
+    "prefix non 5 p ; postfix left 5 q ;", "prefix right 6 p ; postfix non 5 q ; infix non 6 q ;",
+    "prefix non 5 p ; infix left 5 p ; postfix left 5 p ; infix left 6 q ;",
+    "prefix right 2 p ; infix left 5 p ; infix right 4 q ;",
+    "prefix right 6 p ; infix left 3 p ; postfix left 5 q ; prefix non 4 q ;",
+    "prefix non 4 p ; postfix left 6 p ; infix right 6 q ; prefix right 3 q ;",
+];
+
+/// Document 02, section 14, by all token lists up to a length: no text with
+/// the same tree has fewer tokens than the canonical text.
+#[test]
+fn fewest_tokens() {
+    const TOKENS: [&str; 5] = ["a", "p", "q", "(", ")"];
+    const LONGEST: u32 = 7;
+    let (mut shorter, mut with_brackets) = (0, 0);
+    for declarations in DECLARATIONS {
+        let mut least: HashMap<Tree, usize> = HashMap::new();
+        let mut read = Vec::new();
+        for (length, number) in (1..=LONGEST).flat_map(|n| (0..5_usize.pow(n)).map(move |k| (n, k))) {
+            let inside: Vec<&str> = (0..length).map(|at| TOKENS[number / 5_usize.pow(at) % 5]).collect();
+            let text = format!("let {declarations} in {} end", inside.join(" ")).into_bytes();
+            if let Some(tree) = tree(&text) {
+                let count = tokens(&text).len();
+                let fewest = least.entry(tree).or_insert(count);
+                *fewest = count.min(*fewest);
+                read.push(text);
+            }
+        }
+        for text in read {
+            let written = canonical(&text).unwrap();
+            let count = tokens(&written).len();
+            assert_eq!(count, least[&tree(&text).unwrap()], "{}", String::from_utf8_lossy(&text));
+            shorter += u32::from(count < tokens(&text).len());
+            with_brackets += u32::from(written.contains(&b'('));
+        }
+    }
+    assert!(shorter > 500 && with_brackets > 200, "{shorter} {with_brackets}");
+}
+
 #[test]
 fn buffers() {
     let mut texts = Texts::new(23);

@@ -9,6 +9,7 @@ use native.Mathlib.Omega.{arith}
 use lib.ListN.{length, length-append}
 use Rattle.grammar.specs.Bytes.{Bytes, every}
 use Rattle.grammar.specs.Token.{Token, symbol}
+use Rattle.grammar.specs.Spelling.{Spells}
 use Rattle.grammar.specs.Operator.{Table}
 use Rattle.grammar.specs.Declaration.{startTable}
 use Rattle.grammar.specs.Span.{single}
@@ -28,10 +29,10 @@ use Rattle.grammar.proofs.BlankTexts.{blank-past}
 use Rattle.grammar.proofs.Rules.{same-reading, canonical-same, treeless-exactly, inside-some, span-without}
 
 -- What a text reads as has the text's own tokens, a blank rule none.
-pub reading-tokens : (text : Bytes) (ts : List Token) (t : Tree) → Past text ts → ReadingOf text t → flat t ≡ ts
+pub reading-tokens : (text : Bytes) (ts : List Token) (t : Tree) → Spells text ts → ReadingOf text t → flat t ≡ ts
 unfolding flat
-reading-tokens text ts t p (ofTree h) = h .isTree .tokens ∙ spells-unique (h .past .spelled) (p .spelled)
-reading-tokens text ts t p (ofBlank b) = spells-unique (blank-past text .0 b .spelled) (p .spelled)
+reading-tokens text ts t s (ofTree h) = h .isTree .tokens ∙ spells-unique (h .past .spelled) s
+reading-tokens text ts t s (ofBlank b) = spells-unique (blank-past text .0 b .spelled) s
 
 -- A tree that is there agrees with no blank rule: under its brackets stands something.
 something : (T : Table) (t : Tree) → InnerOk T t → present (spanTree t) ≡ true → abstract t ≡ absent → ⊥

@@ -11,10 +11,9 @@ use Rattle.grammar.specs.Token.{atom, symbol, number, quoted, isNumber, 
 use Rattle.grammar.specs.Operator.{Role, Table}
 use Rattle.grammar.specs.Declaration.{Declaration, declares, clears, value, declareAll, declarationTokens, allTokens}
 use Rattle.grammar.specs.SpanTree.{present, fixityBy, fixity, Position, onLeft, onRight, roleOver}
-use Rattle.grammar.specs.Tree.{Tree, nothing, leaf, bracket, block, node, flat, spanTree}
+use Rattle.grammar.specs.Tree.{Tree, nothing, leaf, bracket, block, node, flat, spanTree, InnerOk}
 use Rattle.grammar.specs.Abstract.{Content, name, numeral, content, change, AbstractTree, absent, one, under, operation, abstract}
 use Rattle.grammar.specs.Canonical.{strip, stripDeclaration, writtenName, writtenAtom, fitted, canonical}
-use Rattle.grammar.proofs.CheckedTrees.{InnerChecked}
 use Rattle.grammar.proofs.Logic.{and-left}
 use Rattle.grammar.proofs.Numbers.{value-strip, strip-equal}
 use Rattle.grammar.proofs.StripDeclarations.{NumbersOk, declare-strip, change-strip, strip-by-change}
@@ -76,13 +75,13 @@ numbers-ok (declares f a d m ∷ ds) e =
 numbers-ok (clears m ∷ ds) e = numbers-ok ds (tokens-split (declarationTokens (clears m)) (allTokens ds) e .1)
 
 -- So it is in a tree of tokens.
-pub leaves-ok : (T : Table) (t : Tree) → InnerChecked T t → areTokens (flat t) ≡ true → LeavesOk t
+pub leaves-ok : (T : Table) (t : Tree) → InnerOk T t → areTokens (flat t) ≡ true → LeavesOk t
 leaves-ok T nothing i e = tt
 leaves-ok T (leaf a) i e = leaf-ok a (leaf-token a e)
 leaves-ok T (bracket t) i e = (i .0 .1, leaves-ok T t (i .1) (inside-tokens t e))
 leaves-ok T (block ds t) i e =
     let parts = block-tokens ds t e in
-    (numbers-ok ds (parts .0), leaves-ok (declareAll T ds) t (i .3) (parts .1))
+    (numbers-ok ds (parts .0), leaves-ok (declareAll T ds) t (i .1) (parts .1))
 leaves-ok T (node l m r) i e =
     let parts = node-tokens l m r e in
     (leaves-ok T l (i .0) (parts .0), leaves-ok T r (i .1) (parts .2))

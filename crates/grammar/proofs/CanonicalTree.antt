@@ -204,9 +204,22 @@ pub canonical-present : (T : Table) (t : Tree) → InnerChecked T t → present 
 unfolding canonical spanTree present
 canonical-present T nothing i = refl
 canonical-present T (leaf t) i = refl
-canonical-present T (bracket t) i = canonical-present T t (i .1) ∙ i .0 .1
+canonical-present T (bracket t) i = cc (canonical-present T t (i .1), i .0 .1)
 canonical-present T (block ds t) i = refl
 canonical-present T (node l m r) i = refl
+
+-- No bracket of the canonical tree is spare.
+pub canonical-tight : (T : Table) (t : Tree) → Positive T → InnerChecked T t → NoSpare T false (canonical T t)
+unfolding canonical roleOver
+canonical-tight T nothing p i = tt
+canonical-tight T (leaf t) p i = tt
+canonical-tight T (bracket t) p i = canonical-tight T t p (i .1)
+canonical-tight T (block ds t) p i =
+    subst (λ U. NoSpare U false (canonical (declareAll T ds) t)) (sym (declare-strip T ds))
+    (canonical-tight (declareAll T ds) t (positive-declared T ds p (i .0)) (i .3))
+canonical-tight T (node l m r) p i =
+    node-tight T p l r m (canonical T l) (canonical T r) (canonical-present T l (i .0)) (canonical-present T r (i .1))
+    (canonical-tight T l p (i .0)) (canonical-tight T r p (i .1))
 
 -- A leaf as it is written is an operand: a word or sign with a role is quoted.
 written-operand : (T : Table) (a : Atom) → isOperandAtom T a ≡ true → isOperandAtom T (writtenAtom T a) ≡ true
@@ -227,7 +240,7 @@ canonical-ok T (block ds t) p a i =
     let inside = canonical-ok (declareAll T ds) t (positive-declared T ds p (i .0)) (i .2 .0) (i .3) in (
       refl,
       (
-        strip-declarations ds (i .0),
+        strip-declarations ds ∙ i .0,
         rw (declare-strip T ds) (i .1),
         rw (declare-strip T ds) (inside .0, canonical-present (declareAll T ds) t (i .3) ∙ i .2 .1),
         rw (declare-strip T ds) (inside .1),
@@ -244,16 +257,3 @@ pub canonical-root :
 unfolding canonical spanTree root roleOver
 canonical-root T l m r p i =
     role-kept T p l r m (canonical T l) (canonical T r) (canonical-present T l (i .0)) (canonical-present T r (i .1))
-
--- None of its brackets is spare.
-pub canonical-tight : (T : Table) (t : Tree) → Positive T → InnerChecked T t → NoSpare T false (canonical T t)
-unfolding canonical roleOver
-canonical-tight T nothing p i = tt
-canonical-tight T (leaf t) p i = tt
-canonical-tight T (bracket t) p i = canonical-tight T t p (i .1)
-canonical-tight T (block ds t) p i =
-    subst (λ U. NoSpare U false (canonical (declareAll T ds) t)) (sym (declare-strip T ds))
-    (canonical-tight (declareAll T ds) t (positive-declared T ds p (i .0)) (i .3))
-canonical-tight T (node l m r) p i =
-    node-tight T p l r m (canonical T l) (canonical T r) (canonical-present T l (i .0)) (canonical-present T r (i .1))
-    (canonical-tight T l p (i .0)) (canonical-tight T r p (i .1))

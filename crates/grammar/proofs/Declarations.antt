@@ -1,7 +1,7 @@
 -- Declarations and their tokens: reading the tokens of a declaration gives it back, and what reads as a declaration is its tokens.
 -- Each part of the reader looks at one token, so each part has one law in either direction, and a declaration is the parts in a row.
 -- Declarations written otherwise that change the operators in force as before pass checks 8 to 10 and 17 as before.
-use mathlib.Core.Path.{_≡_, refl, sym, ap, _∙_}
+use mathlib.Core.Path.{_≡_, refl, sym, ap, ap₂, _∙_}
 use mathlib.Core.Bool.{Bool, true, false, true≢false}
 use mathlib.Core.List.{List, [], _∷_, _++_, map, map-id}
 use mathlib.Core.Option.{Option, none, some}
@@ -370,12 +370,10 @@ module _
     declare-map T [] = refl
     declare-map T (d ∷ ds) = ap (λ U. declareAll U (map f ds)) (changes T d) ∙ declare-map (declare T d) ds
 
-    pub allow-map : (ds : List Declaration) → areDeclarations ds ≡ true → areDeclarations (map f ds) ≡ true
+    pub allow-map : (ds : List Declaration) → areDeclarations (map f ds) ≡ areDeclarations ds
     unfolding areDeclarations
-    allow-map [] e = e
-    allow-map (d ∷ ds) e =
-        let (p, q) = declarations-first d ds e in
-        rw (allows d ∙ p, areDeclarations) (allow-map ds q)
+    allow-map [] = refl
+    allow-map (d ∷ ds) = ap₂ (λ b c. elim b as (λ _. Bool) [ true ↦ c | false ↦ false ]) (allows d) (allow-map ds)
 
     -- They pass checks 8 to 10 and 17 as before, at any token number and with any fuel that is enough.
     pub enter-map :

@@ -75,7 +75,7 @@ pub items-of : (ts : List Token) (i : ℕ) → nesting [] i ts ≡ passed tt →
 items-of ts i h = items-below (suc (length ts)) ts (omega arith) (λ j. nesting-anywhere ts [] i j h)
 
 -- The tokens of items are collected as a whole inside a pair, and the walk finds the items.
-items-collected : {ts : List Token} {is : List Item} → ItemsOf ts is → Collected ts
+pub items-collected : {ts : List Token} {is : List Item} → ItemsOf ts is → Collected ts
 unfolding effect
 items-collected empty = collected-none
 items-collected (own {a} {ts} h) = collected-append (atom a ∷ []) ts (collected-all-quiet (atom a ∷ []) (tt, tt)) (items-collected h)

@@ -46,6 +46,7 @@ pub mod Present
 pub mod ReadingTrees
 pub mod Readings
 pub mod Faults
+pub mod MatchingPairs
 pub mod ReservedRoles
 pub mod RulesAlike
 pub mod ReservedNames
@@ -60,6 +61,7 @@ pub mod RoundTrip
 pub mod BlankTexts
 pub mod Rules
 pub mod BlankRules
+pub mod FewestTokens
 pub mod Answers
 pub mod BareNames
 pub mod SpanPlaces

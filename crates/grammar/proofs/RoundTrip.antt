@@ -20,6 +20,7 @@ use Rattle.grammar.specs.Abstract.{abstract, Agree}
 use Rattle.grammar.specs.Canonical.{canonical, canonicalText, joinTokens}
 use Rattle.grammar.specs.Answer.{Reading, PastChecks, tokensOf, readText, readingText}
 use Rattle.grammar.specs.Claim.{canonicalTree, Faithful}
+use Rattle.grammar.proofs.CheckedTrees.{inner-ok}
 use Rattle.grammar.proofs.Nested.{nesting-flat, nesting-depth}
 use Rattle.grammar.proofs.Operators.{positive-start}
 use Rattle.grammar.proofs.Scanned.{length-tokens, scan-joined, join-injective, scan-tokens}
@@ -33,14 +34,14 @@ use Rattle.grammar.proofs.Answers.{count-tokens}
 use Rattle.grammar.proofs.Readings.{reading-of-tokens, read-as}
 
 -- What is known of what a text was read as.
-record Facts (r : Reading) : Type 0 where
-  isReading : IsReading (flat (r .tree)) (r .tree)
-  tokens : areTokens (flat (r .tree)) ≡ true
-  few : length (flat (r .tree)) ≤ mostTokens
-  shallow : depth (r .tree) ≤ deepest
-  enters : Enters startTable (r .tree)
+pub record Facts (r : Reading) : Type 0 where
+  pub isReading : IsReading (flat (r .tree)) (r .tree)
+  pub tokens : areTokens (flat (r .tree)) ≡ true
+  pub few : length (flat (r .tree)) ≤ mostTokens
+  pub shallow : depth (r .tree) ≤ deepest
+  pub enters : Enters startTable (r .tree)
 
-facts : (text : Bytes) (r : Reading) → readText text ≡ passed r → Facts r
+pub facts : (text : Bytes) (r : Reading) → readText text ≡ passed r → Facts r
 facts text r e =
     let h = reading-of-tokens text r e in
     let ps = r .tokens in
@@ -138,8 +139,8 @@ same-text a b r q d e =
       (λ s.
           ap (λ t. joinTokens (flat t))
           (canonical-by-agreement startTable (r .tree) (q .tree)
-          (leaves-ok startTable (r .tree) (f .isReading .inner) (f .tokens))
-          (leaves-ok startTable (q .tree) (g .isReading .inner) (g .tokens)) s)),
+          (leaves-ok startTable (r .tree) (inner-ok startTable (r .tree) (f .isReading .inner)) (f .tokens))
+          (leaves-ok startTable (q .tree) (inner-ok startTable (q .tree) (g .isReading .inner)) (g .tokens)) s)),
     )
 
 -- A text that is read has at most 1,024 nodes.

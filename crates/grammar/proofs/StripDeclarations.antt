@@ -49,7 +49,7 @@ strip-changes T (clears m) = refl
 pub declare-strip : (T : Table) (ds : List Declaration) → declareAll T (map stripDeclaration ds) ≡ declareAll T ds
 declare-strip = declare-map stripDeclaration strip-allows strip-names strip-changes
 
-pub strip-declarations : (ds : List Declaration) → areDeclarations ds ≡ true → areDeclarations (map stripDeclaration ds) ≡ true
+pub strip-declarations : (ds : List Declaration) → areDeclarations (map stripDeclaration ds) ≡ areDeclarations ds
 strip-declarations = allow-map stripDeclaration strip-allows strip-names strip-changes
 
 -- Declarations that passed checks 8 to 10 and 17 pass them without the zeros of their digits, wherever they stand.

@@ -19,6 +19,7 @@ pub mod Blocks
 pub mod Nodes
 pub mod Abstract
 pub mod Canonical
+pub mod MatchingPair
 pub mod Answer
 pub mod Decoding
 pub mod NodePrecedence

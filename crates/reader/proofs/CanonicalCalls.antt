@@ -1,5 +1,5 @@
--- Calls of `canonicalize`: one byte to a byte of canonical text, 13 where it does not fit; what the buffer then holds reads back, and two
--- of them are compared by their trees.
+-- Calls of `canonicalize`: one byte to a byte of canonical text, 13 where it does not fit; what the buffer then holds reads back, two of
+-- them are compared by their trees, and no bracket of it can be spared.
 use mathlib.Core.Path.{_≡_, refl, sym, ap, ap₂, subst, _∙_}
 use mathlib.Core.Logic.{_↔_}
 use mathlib.Core.Bool.{Bool, true, _&&_}
@@ -12,17 +12,24 @@ use lib.Seq.{take-append-seam, drop-append-seam}
 use borrow.Author.Tests.{leb-true, le-leb}
 use Rattle.grammar.specs.Bytes.{Bytes}
 use Rattle.grammar.specs.Outcome.{Outcome, refused, passed}
-use Rattle.grammar.specs.Tree.{Tree}
+use Rattle.grammar.specs.Token.{Token}
+use Rattle.grammar.specs.Spelling.{Spells}
+use Rattle.grammar.specs.Declaration.{startTable}
+use Rattle.grammar.specs.Tree.{Tree, IsTree}
+use Rattle.grammar.specs.MatchingPair.{MatchingPair, remaining}
 use Rattle.grammar.specs.Abstract.{Agree}
 use Rattle.grammar.specs.Fault.{current, longestText}
 use Rattle.grammar.specs.Claim.{ReadingOf, canonicalTree, canonicalBytes}
 use Rattle.grammar.specs.Answer as G
 use Rattle.grammar.specs.Answer.{Reading, readText, over, readingText, writeInto, canonicalizeInto}
 use Rattle.grammar.proofs.Logic.{and-left, and-right, and-intro}
+use Rattle.grammar.proofs.Scanned.{spells-tokens}
+use Rattle.grammar.proofs.FewestTokens as FewestTokens
+use Rattle.grammar.proofs.FewestTokens.{CanonicalOf}
 use Rattle.grammar.proofs.Rules.{reading-of, same-reading, canonical-read, canonical-same}
 use Rattle.reader.specs.declared.Answer.{Answer}
 use Rattle.reader.specs.Answered.{resultOf, Reads, Canonicalizes}
-use Rattle.reader.specs.Demands.{RightAnswer, TableFits, BufferFits, TableHolds, BufferHolds, RightCanonical}
+use Rattle.reader.specs.Demands.{RightAnswer, TableFits, BufferFits, TableHolds, BufferHolds, RightCanonical, Canonicalized}
 use Rattle.reader.proofs.Calls as Calls
 use Rattle.reader.proofs.Calls.{served}
 use Rattle.reader.proofs.ReadCalls as ReadCalls
@@ -77,15 +84,22 @@ written text B B′ a h z t i =
 pub right : (text : Bytes) (B B′ : List ℕ) (a : Answer) → Canonicalizes text B B′ a → RightCanonical current text B B′ a
 right text B B′ a h = record { answers = answers text B B′ a h; held = written text B B′ a h }
 
+-- What the buffer then holds reads as the canonical tree.
+held-reads :
+    (text : Bytes) (B B′ : List ℕ) (a : Answer) → Canonicalizes text B B′ a → a .number ≡ 0 → (t : Tree) → ReadingOf text t
+    → ReadingOf (take (a .count) B′) (canonicalTree t)
+held-reads text B B′ a h z t i =
+    let (u, k, f) = answers text B B′ a h .success .0 z in
+    let same : u ≡ t = same-reading text u t k i in
+    let short : length (canonicalBytes t) ≤ longestText = rw same at (f .1) in
+    subst (λ s. ReadingOf s (canonicalTree t)) (sym (written text B B′ a h z t i .text)) (canonical-read text t i short)
+
 pub reads-back :
     (text : Bytes) (B B′ : List ℕ) (a : Answer) → Canonicalizes text B B′ a → a .number ≡ 0 → (t : Tree) → ReadingOf text t
     → (N N′ : List ℕ) (b : Answer) → Reads (take (a .count) B′) N N′ b → TableFits N (canonicalTree t)
     → (b .number ≡ 0) × TableHolds (take (a .count) B′) N N′ (b .count) (canonicalTree t)
 reads-back text B B′ a h z t i N N′ b g l =
-    let (u, k, f) = answers text B B′ a h .success .0 z in
-    let same : u ≡ t = same-reading text u t k i in
-    let short : length (canonicalBytes t) ≤ longestText = rw same at (f .1) in
-    let back : ReadingOf (take (a .count) B′) (canonicalTree t) = subst (λ s. ReadingOf s (canonicalTree t)) (sym (written text B B′ a h z t i .text)) (canonical-read text t i short) in
+    let back = held-reads text B B′ a h z t i in
     let zero : b .number ≡ 0 = ReadCalls.answers (take (a .count) B′) N N′ b g .success .1 (canonicalTree t, back, l) in
     (zero, ReadCalls.tree-held (take (a .count) B′) N N′ b g zero (canonicalTree t) back)
 
@@ -97,3 +111,27 @@ same-bytes text other B B′ C C′ a b h k z y t u i j =
     let q = written other C C′ b k y u j .text in
     let s = canonical-same text other t u i j in
     (λ e. s .0 (sym p ∙ e ∙ q), λ e. p ∙ s .1 e ∙ sym q)
+
+-- What was written is the canonical text of a rule, ..
+canonical-of : {ts : List Token} {t : Tree} → Canonicalized ts t → CanonicalOf ts t
+canonical-of c =
+    let (r, rule, fits) = answers (c .text) (c .buffer) (c .buffer′) (c .answer) (c .call) .success .0 (c .written) in
+    record {
+      text = c .text;
+      rule = r;
+      read = rule;
+      written = take (c .answer .count) (c .buffer′);
+      back = held-reads (c .text) (c .buffer) (c .buffer′) (c .answer) (c .call) (c .written) r rule;
+      spelled = c .spelled;
+      reading = c .reading;
+    }
+
+-- .. so no text with a tree that agrees has fewer tokens, ..
+pub fewest-tokens :
+    (ts us : List Token) (t u : Tree) (other : Bytes) → Canonicalized ts t → Spells other us → IsTree startTable us u → Agree t u → length ts ≤ length us
+fewest-tokens ts us t u other c s h agree = FewestTokens.fewest-tokens (canonical-of c) us u (spells-tokens s) h agree
+
+-- .. and none of its bracket pairs can be dropped.
+pub bracket-needed :
+    (ts : List Token) (t u : Tree) → Canonicalized ts t → (pair : MatchingPair ts) → IsTree startTable (remaining pair) u → Agree t u → ⊥
+bracket-needed ts t u c pair h agree = FewestTokens.bracket-needed (canonical-of c) pair u h agree

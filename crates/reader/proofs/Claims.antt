@@ -8,11 +8,12 @@
 use mathlib.Core.Path.{_≡_}
 use mathlib.Core.Logic.{_↔_}
 use mathlib.Core.Bool.{true}
-use mathlib.Core.List.{List, [], _∷_}
+use mathlib.Core.List.{List, [], _∷_, _++_}
 use Prim.Native.Nat.{ℕ, _≤_, _<_}
 use lib.ListN.{length, take}
 use Rattle.grammar.specs.Bytes.{Bytes}
-use Rattle.grammar.specs.Token.{Token, isNumber}
+use Rattle.grammar.specs.Token.{Token, structure, opening, isNumber}
+use Rattle.grammar.specs.Spelling.{Spells}
 use Rattle.grammar.specs.Operator.{Fixity, Associativity, Table, role, Conditions, Permitted, conditions}
 use Rattle.grammar.specs.Declaration.{declares, startTable, isReserved, value}
 use Rattle.grammar.specs.Spans.{Span, SpanOf}
@@ -24,6 +25,7 @@ use Rattle.grammar.specs.NodePrecedence.{NodePrecedence}
 use Rattle.grammar.specs.Widest.{widest}
 use Rattle.grammar.specs.Abstract.{Agree}
 use Rattle.grammar.specs.Canonical.{strip, stripDeclaration}
+use Rattle.grammar.specs.MatchingPair.{MatchingPair, remaining}
 use Rattle.grammar.specs.Fault.{current, withoutReserving, withFourConditions, longestText, Fault, Past, Unreserved, Conditioned}
 use Rattle.grammar.specs.Claim.{BlocksLawful, operatorsAmong, operatorsOf, FirstWithout, EmptyInside, TreeOf, ReadingOf, canonicalTree, canonicalBytes, Faithful}
 use Rattle.grammar.proofs.Numbers as Numbers
@@ -33,13 +35,14 @@ use Rattle.grammar.proofs.Unambiguous.{permitted-unambiguous}
 use Rattle.grammar.proofs.WidestRoot.{root-widest}
 use Rattle.grammar.proofs.TreeOperators as TreeOperators
 use Rattle.grammar.proofs.Faults as Faults
+use Rattle.grammar.proofs.MatchingPairs as MatchingPairs
 use Rattle.grammar.proofs.BlankTexts as BlankTexts
 use Rattle.grammar.proofs.Rules as Rules
 use Rattle.grammar.proofs.BlankRules as BlankRules
 use Rattle.grammar.proofs.ReservedRoles as ReservedRoles
 use Rattle.reader.specs.declared.Answer.{Answer}
 use Rattle.reader.specs.Answered.{written, Reads, Canonicalizes}
-use Rattle.reader.specs.Demands.{RightAnswer, TableFits, BufferFits, TableHolds, BufferHolds, RightReading, RightCanonical, OnlyReading, OnlyCanonical}
+use Rattle.reader.specs.Demands.{RightAnswer, TableFits, BufferFits, TableHolds, BufferHolds, RightReading, RightCanonical, OnlyReading, OnlyCanonical, Canonicalized}
 use Rattle.reader.proofs.ReadCalls as ReadCalls
 use Rattle.reader.proofs.CanonicalCalls as CanonicalCalls
 use Rattle.reader.proofs.BlankCalls as BlankCalls
@@ -206,3 +209,22 @@ pub reserved-roles :
     (m : Bytes) → isReserved m ≡ true → (f : Fixity) (text : Bytes) (ts : List Token) → Past text ts → (s : Span) → SpanOf ts s
     → role (s .table) m f ≡ role startTable m f
 reserved-roles = ReservedRoles.reserved-roles
+
+-- Document 02, §14. `Canonicalized ts t`: a text that `canonicalize` wrote, from whatever text into whatever buffer, has the tokens ts and reads
+-- as t. "no text with that same bracketless tree and the same declarations has fewer tokens": whatever tree of the starting operators another
+-- text has, past the checks or not. (A blank text has no tree. It agrees with blank rules alone, whose canonical text has no token.)
+pub fewest-tokens :
+    (ts us : List Token) (t u : Tree) (other : Bytes) → Canonicalized ts t → Spells other us → IsTree startTable us u → Agree t u → length ts ≤ length us
+fewest-tokens = CanonicalCalls.fewest-tokens
+
+-- "drop any one matching pair of brackets from a tidy text, and the remaining tokens have no tree or a tree that differs from the old one once
+-- brackets are taken out of both": no tree of them agrees with the old one.
+pub bracket-needed :
+    (ts : List Token) (t u : Tree) → Canonicalized ts t → (pair : MatchingPair ts) → IsTree startTable (remaining pair) u → Agree t u → ⊥
+bracket-needed = CanonicalCalls.bracket-needed
+
+-- Every opening bracket of a text past checks 1 to 10, so of a canonical text, is that of one matching pair.
+pub one-pair :
+    (text : Bytes) (ts : List Token) → Past text ts → (before rest : List Token) → ts ≡ before ++ structure opening ∷ rest
+    → (p : MatchingPair ts) × (p .before ≡ before) × ((q : MatchingPair ts) → q .before ≡ before → q .inside ≡ p .inside)
+one-pair = MatchingPairs.one-pair

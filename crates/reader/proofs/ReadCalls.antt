@@ -102,7 +102,7 @@ pub node-precedences :
     → (k : ℕ) → k < a .count → NodePrecedence text ts N′ k
 node-precedences text N N′ a h z ts p k l =
     let (t, i, fits) = answers text N N′ a h .success .0 z in
-    subst (λ us. NodePrecedence text us N′ k) (reading-tokens text ts t p i) (tree-held text N N′ a h z t i .precedences k l)
+    subst (λ us. NodePrecedence text us N′ k) (reading-tokens text ts t (p .spelled) i) (tree-held text N N′ a h z t i .precedences k l)
 
 -- All that is asked of it.
 pub right : (text : Bytes) (N N′ : List ℕ) (a : Answer) → Reads text N N′ a → RightReading current text N N′ a

@@ -8,15 +8,15 @@ use lib.ListN.{length, take, drop, getD}
 use Rattle.grammar.specs.Bytes.{Bytes}
 use Rattle.grammar.specs.Token.{Token}
 use Rattle.grammar.specs.Declaration.{Declaration, startTable}
-use Rattle.grammar.specs.Spelling.{TokenAt}
+use Rattle.grammar.specs.Spelling.{Spells, TokenAt}
 use Rattle.grammar.specs.Tree.{Tree, flat}
 use Rattle.grammar.specs.Nodes.{count, words, wordsPerNode}
 use Rattle.grammar.specs.Fault.{Rules, current, longestText, BeforeEleven, FaultUnder, PastUnder}
 use Rattle.grammar.specs.Decoding.{decodeTable, Ordered, Together}
 use Rattle.grammar.specs.NodePrecedence.{NodePrecedence}
-use Rattle.grammar.specs.Claim.{nodeNames, nodeBlocks, FromLetToIn, FirstWithout, ReadingUnder, canonicalBytes}
+use Rattle.grammar.specs.Claim.{nodeNames, nodeBlocks, FromLetToIn, FirstWithout, ReadingUnder, ReadingOf, canonicalBytes}
 use Rattle.reader.specs.declared.Answer.{Answer}
-use Rattle.reader.specs.Answered.{nodeCharacters}
+use Rattle.reader.specs.Answered.{nodeCharacters, Canonicalizes}
 
 -- Demand 1, of a service whose own refusal has the number `own` and is given where a tree does not fit. `B` is the lent buffer before the
 -- call, `B′` after it. The rules that documents 01 and 02 set (`Rules`) are a parameter.
@@ -100,3 +100,14 @@ OnlyReading rules text N N′ a =
 abbrev pub OnlyCanonical : Rules → Bytes → List ℕ → List ℕ → Answer → Type 0
 OnlyCanonical rules text B B′ a =
     RightCanonical rules text B B′ a × ((B″ : List ℕ) (b : Answer) → RightCanonical rules text B B″ b → (a ≡ b) × (B′ ≡ B″))
+
+-- A text that `canonicalize` wrote, from whatever text into whatever buffer: its tokens `ts`, and what it reads as.
+pub record Canonicalized (ts : List Token) (t : Tree) : Type 0 where
+  pub text : Bytes
+  pub buffer : List ℕ
+  pub buffer′ : List ℕ
+  pub answer : Answer
+  pub call : Canonicalizes text buffer buffer′ answer
+  pub written : answer .number ≡ 0
+  pub spelled : Spells (take (answer .count) buffer′) ts
+  pub reading : ReadingOf (take (answer .count) buffer′) t
