@@ -247,7 +247,7 @@ fn texts_that_agree() {
 const DECLARATIONS: [&str; 10] = [
     "infix left 5 p ; infix left 5 q ;", "infix right 5 p ; infix left 5 q ;",
     "infix non 5 p ; infix right 6 q ;", "prefix right 5 p ; infix left 5 q ;",
-    "prefix non 5 p ; postfix left 5 q ;", "prefix right 6 p ; postfix non 5 q ; infix non 6 q ;",
+    "prefix non 5 p ; postfix left 5 q ;", "prefix right 6 p ; postfix non 6 q ; infix non 6 q ;",
     "prefix non 5 p ; infix left 5 p ; postfix left 5 p ; infix left 6 q ;",
     "prefix right 2 p ; infix left 5 p ; infix right 4 q ;",
     "prefix right 6 p ; infix left 3 p ; postfix left 5 q ; prefix non 4 q ;",
@@ -274,6 +274,7 @@ fn fewest_tokens() {
                 read.push(text);
             }
         }
+        assert!(read.len() > 50, "{declarations}: {}", read.len());
         for text in read {
             let written = canonical(&text).unwrap();
             let count = tokens(&written).len();
