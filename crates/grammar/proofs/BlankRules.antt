@@ -29,10 +29,13 @@ use Rattle.grammar.proofs.BlankTexts.{blank-past}
 use Rattle.grammar.proofs.Rules.{same-reading, canonical-same, treeless-exactly, inside-some, span-without}
 
 -- What a text reads as has the text's own tokens, a blank rule none.
-pub reading-tokens : (text : Bytes) (ts : List Token) (t : Tree) → Spells text ts → ReadingOf text t → flat t ≡ ts
+pub reading-spelled : (text : Bytes) (t : Tree) → ReadingOf text t → Spells text (flat t)
 unfolding flat
-reading-tokens text ts t s (ofTree h) = h .isTree .tokens ∙ spells-unique (h .past .spelled) s
-reading-tokens text ts t s (ofBlank b) = spells-unique (blank-past text .0 b .spelled) s
+reading-spelled text t (ofTree h) = rw (h .isTree .tokens) (h .past .spelled)
+reading-spelled text t (ofBlank b) = blank-past text .0 b .spelled
+
+pub reading-tokens : (text : Bytes) (ts : List Token) (t : Tree) → Spells text ts → ReadingOf text t → flat t ≡ ts
+reading-tokens text ts t s h = spells-unique (reading-spelled text t h) s
 
 -- A tree that is there agrees with no blank rule: under its brackets stands something.
 something : (T : Table) (t : Tree) → InnerOk T t → present (spanTree t) ≡ true → abstract t ≡ absent → ⊥

@@ -15,7 +15,7 @@ use Rattle.grammar.specs.Outcome.{Outcome, refused, passed}
 use Rattle.grammar.specs.Token.{Token}
 use Rattle.grammar.specs.Spelling.{Spells}
 use Rattle.grammar.specs.Declaration.{startTable}
-use Rattle.grammar.specs.Tree.{Tree, IsTree}
+use Rattle.grammar.specs.Tree.{Tree, flat, IsTree}
 use Rattle.grammar.specs.MatchingPair.{MatchingPair, remaining}
 use Rattle.grammar.specs.Abstract.{Agree}
 use Rattle.grammar.specs.Fault.{current, longestText}
@@ -26,6 +26,7 @@ use Rattle.grammar.proofs.Logic.{and-left, and-right, and-intro}
 use Rattle.grammar.proofs.Scanned.{spells-tokens}
 use Rattle.grammar.proofs.FewestTokens as FewestTokens
 use Rattle.grammar.proofs.FewestTokens.{CanonicalOf}
+use Rattle.grammar.proofs.BlankRules.{reading-spelled}
 use Rattle.grammar.proofs.Rules.{reading-of, same-reading, canonical-read, canonical-same}
 use Rattle.reader.specs.declared.Answer.{Answer}
 use Rattle.reader.specs.Answered.{resultOf, Reads, Canonicalizes}
@@ -111,6 +112,18 @@ same-bytes text other B B′ C C′ a b h k z y t u i j =
     let q = written other C C′ b k y u j .text in
     let s = canonical-same text other t u i j in
     (λ e. s .0 (sym p ∙ e ∙ q), λ e. p ∙ s .1 e ∙ sym q)
+
+-- Every call with the number 0 writes a canonical text.
+pub canonicalized :
+    (text : Bytes) (B B′ : List ℕ) (a : Answer) → Canonicalizes text B B′ a → a .number ≡ 0 → (ts : List Token) × (t : Tree) × Canonicalized ts t
+canonicalized text B B′ a h z =
+    let (r, rule, fits) = answers text B B′ a h .success .0 z in
+    let back = held-reads text B B′ a h z r rule in
+    let spelled = reading-spelled (take (a .count) B′) (canonicalTree r) back in (
+      flat (canonicalTree r),
+      canonicalTree r,
+      record { text = text; buffer = B; buffer′ = B′; answer = a; call = h; written = z; spelled = spelled; reading = back },
+    )
 
 -- What was written is the canonical text of a rule, ..
 canonical-of : {ts : List Token} {t : Tree} → Canonicalized ts t → CanonicalOf ts t

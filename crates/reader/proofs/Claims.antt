@@ -211,8 +211,13 @@ pub reserved-roles :
 reserved-roles = ReservedRoles.reserved-roles
 
 -- Document 02, §14. `Canonicalized ts t`: a text that `canonicalize` wrote, from whatever text into whatever buffer, has the tokens ts and reads
--- as t. "no text with that same bracketless tree and the same declarations has fewer tokens": whatever tree of the starting operators another
--- text has, past the checks or not. (A blank text has no tree. It agrees with blank rules alone, whose canonical text has no token.)
+-- as t. Every call with the number 0 writes one.
+pub canonicalized :
+    (text : Bytes) (B B′ : List ℕ) (a : Answer) → Canonicalizes text B B′ a → a .number ≡ 0 → (ts : List Token) × (t : Tree) × Canonicalized ts t
+canonicalized = CanonicalCalls.canonicalized
+
+-- "no text with that same bracketless tree and the same declarations has fewer tokens": whatever tree another text has under the starting
+-- operators, past the checks or not. (A blank text has no tree. It agrees with blank rules alone, whose canonical text has no token.)
 pub fewest-tokens :
     (ts us : List Token) (t u : Tree) (other : Bytes) → Canonicalized ts t → Spells other us → IsTree startTable us u → Agree t u → length ts ≤ length us
 fewest-tokens = CanonicalCalls.fewest-tokens
