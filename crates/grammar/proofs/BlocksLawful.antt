@@ -1,5 +1,5 @@
 -- Every block of a tree whose tokens passed checks 8 to 10 and 17 has allowed declarations, none of a reserved operator, and operators that
--- meet the four conditions: the items of the tokens are those of the tree, so the checks looked at each block of it, under the operators in
+-- keep the overloading rule: the items of the tokens are those of the tree, so the checks looked at each block of it, under the operators in
 -- force there.
 use mathlib.Core.Path.{_≡_, ap, _∙_}
 use mathlib.Core.List.{List, _∷_}

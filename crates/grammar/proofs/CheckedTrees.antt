@@ -1,4 +1,4 @@
--- Trees whose blocks have allowed declarations and operators that meet the four conditions. The trees of a text past checks 1 to 10 are
+-- Trees whose blocks have allowed declarations and operators that keep the overloading rule. The trees of a text past checks 1 to 10 are
 -- such trees: checks 8 and 10 looked at each block of the text, and a tree of the text has no others.
 use mathlib.Core.Path.{_≡_}
 use mathlib.Core.Bool.{true}

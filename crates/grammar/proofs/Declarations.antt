@@ -327,7 +327,7 @@ module _ (k : ℕ) (T : Table) (i : ℕ) (ts : List Token) {d : Declaration} {re
   enter-step r = declaration-step k T i ts h ∙ rw (r, judged) refl
 
 -- Checks 8 to 10 and 17 passed: the tokens are those of declarations, none of a reserved operator, and what is in force behind them
--- satisfies the four conditions.
+-- keeps the overloading rule.
 enterOf-sound :
     (k : ℕ) (T : Table) (i : ℕ) (ts : List Token) (U : Table) → enter k T i ts ≡ passed U
     → (allTokens (declarationsOf k ts) ≡ ts) × (areDeclarations (declarationsOf k ts) ≡ true)

@@ -43,6 +43,7 @@ remaining-tokens pair e =
     let (before, inside) = tokens-split (pair .before) (structure opening ∷ pair .inside) front in
     tokens-join (pair .before ++ pair .inside) (pair .behind) (tokens-join (pair .before) (pair .inside) before inside) behind
 
+-- What holds of the blocks of a fitted operand holds of those of the operand.
 fitted-checked :
     (T : Table) (s : Position) (o : Option Role) (t : Tree) → InnerChecked T (fitted T s o t) → InnerChecked T t
 fitted-checked T s o t = fitted-by (λ u. InnerChecked T u → InnerChecked T t) T s o t (λ e i. i) (λ e i. i .1)

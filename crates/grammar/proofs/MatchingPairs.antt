@@ -40,12 +40,12 @@ closes-none : Closes []
 closes-none [] rest e = impossible cc
 closes-none (x ∷ before) rest e = impossible cc
 
--- A token that is no opening bracket, and one with its closer.
+-- Behind a token that is no opening bracket.
 closes-other : (t : Token) (ts : List Token) → (t ≡ structure opening → ⊥) → Closes ts → Closes (t ∷ ts)
 closes-other t ts other h [] rest e = absurd (other cc)
 closes-other t ts other h (x ∷ before) rest e = h before rest (tail-eq-of-cons-eq e)
 
--- In tokens in two parts an element stands in the first or in the second.
+-- Of a list in two parts an element stands in the first or in the second.
 divided :
     {A : Type 0} (xs ys before : List A) (a : A) (rest : List A) → xs ++ ys ≡ before ++ a ∷ rest
     → ((r : List A) × (xs ≡ before ++ a ∷ r) × (rest ≡ r ++ ys)) ⊎ ((c : List A) × (ys ≡ c ++ a ∷ rest))
@@ -59,6 +59,7 @@ divided {A = A} (x ∷ xs) ys (b ∷ before) a rest e = go (divided xs ys before
     go (inl (r, p, q)) = inl (r, cc, q)
     go (inr h) = inr h
 
+-- Tokens in a row, an opening bracket with its closer, and declarations.
 closes-append : (xs ys : List Token) → Closes xs → Closes ys → Closes (xs ++ ys)
 closes-append xs ys h g before rest e = go (divided xs ys before (structure opening) rest e)
   where

@@ -199,7 +199,7 @@ unfolding firstWithout
 firstWithout-some [] o e = impossible cc
 firstWithout-some (s ∷ ss) o e = without-some s ss o (firstWithout-some ss o) (climb (s .table) (s .contents)) refl e
 
--- The operators of every span of a text past checks 6 to 10 and 17 meet the four conditions.
+-- The operators of every span of a text past checks 6 to 10 and 17 keep the overloading rule.
 abbrev pub LawfulSpan : Span → Type 0
 LawfulSpan s = Permitted (s .table)
 

@@ -24,7 +24,7 @@ use Rattle.grammar.proofs.Nested.{nesting-anywhere}
 use Rattle.grammar.proofs.ItemsRelation.{items-of, items-only}
 use Rattle.grammar.proofs.TextSound.{Nested, Known, known-items, pair-within, scope-within}
 
--- Tokens past checks 6 to 10 and 17 and 17 under the operators `T`, with fuel `k` that is enough.
+-- Tokens past checks 6 to 10 and 17 under the operators `T`, with fuel `k` that is enough.
 abbrev pub PastUnder : ℕ → Table → List Token → Type 0
 PastUnder k T ts = Nested ts × (length ts < k) × ((n : ℕ) × (checkBlocks k T n ts ≡ passed tt))
 

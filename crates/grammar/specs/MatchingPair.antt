@@ -4,8 +4,8 @@ use mathlib.Core.List.{List, _∷_, _++_}
 use Rattle.grammar.specs.Token.{Token, structure, opening, closing}
 use Rattle.grammar.specs.Span.{Item, ItemsOf}
 
--- An opening bracket, its closer, what is between them, and what is around. That it is its closer: in what is between, a span's tokens,
--- every bracket and block is closed.
+-- An opening bracket, its closer, what is between them, and what is around. It is the bracket's own closer: between them stand the tokens
+-- of a span, in which every bracket and block is closed.
 pub record MatchingPair (ts : List Token) : Type 0 where
   pub before : List Token
   pub inside : List Token

@@ -113,12 +113,19 @@ same-bytes text other B B′ C C′ a b h k z y t u i j =
     let s = canonical-same text other t u i j in
     (λ e. s .0 (sym p ∙ e ∙ q), λ e. p ∙ s .1 e ∙ sym q)
 
--- Every call with the number 0 writes a canonical text.
+-- What a call with the number 0 read, and what the buffer then holds.
+rule-read :
+    (text : Bytes) (B B′ : List ℕ) (a : Answer) → Canonicalizes text B B′ a → a .number ≡ 0
+    → (r : Tree) × ReadingOf text r × ReadingOf (take (a .count) B′) (canonicalTree r)
+rule-read text B B′ a h z =
+    let (r, rule, fits) = answers text B B′ a h .success .0 z in
+    (r, rule, held-reads text B B′ a h z r rule)
+
+-- Every such call writes a canonical text.
 pub canonicalized :
     (text : Bytes) (B B′ : List ℕ) (a : Answer) → Canonicalizes text B B′ a → a .number ≡ 0 → (ts : List Token) × (t : Tree) × Canonicalized ts t
 canonicalized text B B′ a h z =
-    let (r, rule, fits) = answers text B B′ a h .success .0 z in
-    let back = held-reads text B B′ a h z r rule in
+    let (r, rule, back) = rule-read text B B′ a h z in
     let spelled = reading-spelled (take (a .count) B′) (canonicalTree r) back in (
       flat (canonicalTree r),
       canonicalTree r,
@@ -128,13 +135,13 @@ canonicalized text B B′ a h z =
 -- What was written is the canonical text of a rule, ..
 canonical-of : {ts : List Token} {t : Tree} → Canonicalized ts t → CanonicalOf ts t
 canonical-of c =
-    let (r, rule, fits) = answers (c .text) (c .buffer) (c .buffer′) (c .answer) (c .call) .success .0 (c .written) in
+    let (r, rule, back) = rule-read (c .text) (c .buffer) (c .buffer′) (c .answer) (c .call) (c .written) in
     record {
       text = c .text;
       rule = r;
       read = rule;
       written = take (c .answer .count) (c .buffer′);
-      back = held-reads (c .text) (c .buffer) (c .buffer′) (c .answer) (c .call) (c .written) r rule;
+      back = back;
       spelled = c .spelled;
       reading = c .reading;
     }

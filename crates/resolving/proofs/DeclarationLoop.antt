@@ -1,5 +1,5 @@
 -- One turn of the loop over the declarations of a block. Between turns the checks of all its tokens answer what those of the tokens from
--- `at` on answer, under the operators that are then in force; these meet the conditions as long as none that was listed got a role. A turn
+-- `at` on answer, under the operators that are then in force; these keep the overloading rule as long as none that was listed got a role. A turn
 -- answers, or moves `at` behind one declaration.
 use mathlib.Core.Path.{_≡_, refl, sym, ap, ap₂, subst, _∙_}
 use mathlib.Core.Bool.{Bool, true, false, true≢false}

@@ -636,7 +636,7 @@ module _ (t : ℕ) where
       let m = role-of (operator-of (c .before .before .before .before .before .before .before)) in
       omega (arith, role-within m, opened (block-of (m .before .before .before .before)))
 
-  -- The conditions are still met, if they were and the operator is new.
+  -- The overloading rule is still kept, if it was and the operator is new.
   still :
       (c : resolve-block-lts.Joined4 (block-calls t) (resolve-block-at t) resolve-block.Post Inv-declarations μ-declarations)
       → let f = c .before .before .before .before in
