@@ -1,11 +1,12 @@
-/* Reads a rule, given as an argument or on standard input, and prints the answer, the nodes and the canonical text. */
+/* Reads a rule, given as an argument or on standard input, and prints the answer, the nodes, names by characters, and the canonical
+   text. */
 #include "rule_reader.h"
 
 #include <stdio.h>
 #include <string.h>
 
-#if RULE_READER_VERSION < 50000 || RULE_READER_VERSION >= 60000
-#error "written for version 5 of rule_reader.h"
+#if RULE_READER_VERSION < 60000 || RULE_READER_VERSION >= 70000
+#error "written for version 6 of rule_reader.h"
 #endif
 
 /* By number; 14 to 16 are not given. */
@@ -33,6 +34,7 @@ int main(int argc, char **argv)
 {
     static uint32_t nodes[RULE_TABLE_WORDS];
     static uint8_t buffer[RULE_BUFFER_BYTES];
+    uint8_t characters[RULE_NAME_BYTES];
     /* One byte more than a text may have, so that a longer one is refused. */
     static uint8_t input[RULE_MAX_TEXT + 1];
     const uint8_t *text = input;
@@ -59,7 +61,13 @@ int main(int argc, char **argv)
             printf(" %u", (unsigned)node[RULE_NODE_FIRST]);
         if (kind == RULE_INFIX)
             printf(" %u", (unsigned)node[RULE_NODE_SECOND]);
-        printf(" `%.*s`", (int)node[RULE_NODE_LENGTH], (const char *)text + node[RULE_NODE_OFFSET]);
+        if (kind == RULE_NAME) {
+            /* O'Neill is written 'O''Neill'. */
+            struct rule_answer name = rule_write_name(text, length, nodes, RULE_TABLE_WORDS, i, characters, RULE_NAME_BYTES);
+            printf(" `%.*s`", (int)name.count, (const char *)characters);
+        } else {
+            printf(" `%.*s`", (int)node[RULE_NODE_LENGTH], (const char *)text + node[RULE_NODE_OFFSET]);
+        }
         if (kind == RULE_PREFIX || kind == RULE_INFIX || kind == RULE_POSTFIX)
             printf(" precedence %u", (unsigned)node[RULE_NODE_PRECEDENCE]);
         printf("\n");

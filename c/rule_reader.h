@@ -1,32 +1,42 @@
 /*
- * The rule reader for C and C++: two services, proved against the definitions of document 01.
+ * The rule reader for C and C++: three services, proved against the definitions of documents 01 and 02.
  *
  *     rule_read           turns a text into a tree, written as a table of 32-bit words
  *     rule_canonicalize   turns a text into its canonical text
+ *     rule_write_name     writes the characters of the name at a node of such a table
  *
  * Link with target/staticlib/librule_reader.a (x86-64 Linux), which `rt staticlib rule_reader` writes. It needs memcpy and memset
  * and nothing else. c/rule_reader.pc is for pkg-config.
  *
- * A blank rule is a text that is empty or all blanks (bytes 9, 10, 13 and 32), of at most 16,384 bytes. It means nobody. Both
- * services answer with RULE_READ and count 0 and write nothing, whatever the length of the table or buffer: there is no root. No
- * other text has RULE_READ with count 0.
+ * A blank rule is a text that is empty or all blanks (bytes 9, 10, 13 and 32), of at most 16,384 bytes. It means nobody. rule_read
+ * and rule_canonicalize answer with RULE_READ and count 0 and write nothing, whatever the length of the table or buffer: there is
+ * no root. They give no other text RULE_READ with count 0.
  *
- * Arguments. Each of the two lent parts is a pointer and a length. The text is any bytes; it is not changed, and it needs no zero
- * byte at its end. Lengths may be 0, of the text (a blank rule) and of the table or buffer. What is required of a call, and checked
- * by nobody:
+ * Quoted names. A quoted name has 1 to 63 characters, bytes from 32 to 126; a quote among them is written as two, as in
+ * 'O''Neill'. A node gives the bytes as written between the outer quotes, O''Neill, at most 126. rule_write_name gives the
+ * characters, O'Neill, at most 63. It is needed only where the bytes as written have a quote (39): the characters of every other
+ * name, bare or quoted, are its bytes. It is not needed to compare names: two names have the same characters exactly if their bytes
+ * as written are the same, be they bare or quoted, in one text or in two. That is proved, so comparing the parts of the texts byte
+ * by byte stays right.
+ *
+ * Arguments. Each lent part is a pointer and a length. The text is any bytes; it is not changed, and it needs no zero byte at its
+ * end. Lengths may be 0, of the text (a blank rule), of the table and of the buffer. What is required of a call, and checked by
+ * nobody:
  *   - each pointer is valid for its length, `nodes` also aligned for uint32_t;
- *   - the table or buffer does not overlap the text;
+ *   - the part that is written to, the table of rule_read or the buffer, does not overlap another;
  *   - no pointer is null. This holds for length 0 too: the kit does not say that null can stand for an empty slice. Pass any
  *     other pointer, "" for example. (This archive goes through no pointer whose length is 0; c/test.c tries null there. That is
  *     tested, not proved.)
  *
- * Threads. There are no variables outside a call: several threads may call at once, each with a table or buffer of its own.
+ * Threads. There are no variables outside a call: several threads may call at once, each with a table or buffer of its own to write
+ * to. They may share a text, and for rule_write_name also a table.
  *
- * Stack. At most 192 KB for rule_read and 96 KB for rule_canonicalize. Measured on 2026-11-17, not proved, the most found: 187,896
- * bytes for `not` 1,023 times and then a name, and 95,152 bytes for 32 nested blocks. c/stack.c measures it.
+ * Stack. At most 192 KB for rule_read, 96 KB for rule_canonicalize and 4 KB for rule_write_name. Measured on 2026-11-17, not
+ * proved, the most found: 187,928 bytes for `not` 1,023 times and then a name, 95,184 bytes for 32 nested blocks, and 88 bytes.
+ * c/stack.c measures it.
  *
- * Division. Neither call divides or takes a remainder, so a processor without an instruction for it needs no routine. c/divisions
- * looks at every function that they call, before it is compiled, and at this archive.
+ * Division. No call divides or takes a remainder, so a processor without an instruction for it needs no routine. c/divisions looks
+ * at every function that the three call, before it is compiled, and at this archive.
  */
 #ifndef RULE_READER_H
 #define RULE_READER_H
@@ -41,16 +51,17 @@
  *   - MINOR: something is added to this header, and all that was there stays;
  *   - PATCH: neither this header's declarations nor any result has changed.
  * CHANGELOG.md says for each version what a program has to change. Since 4.0.0 a node has one word more, its precedence, so a
- * program for an earlier version must be changed and compiled anew. Since 5.0.0 more rules are read (RULE_BAD_OVERLOADING).
+ * program for an earlier version must be changed and compiled anew. Since 5.0.0 more rules are read (RULE_BAD_OVERLOADING). Since
+ * 6.0.0 a quoted name can have quotes (rule_write_name).
  *
- * RULE_READER_VERSION is one number to compare, 50000 for 5.0.0. Headers before 4.0.0 do not define it, and #if takes it as 0. So a
+ * RULE_READER_VERSION is one number to compare, 60000 for 6.0.0. Headers before 4.0.0 do not define it, and #if takes it as 0. So a
  * program says at compile time for which version it was written:
  *
- *     #if RULE_READER_VERSION < 50000 || RULE_READER_VERSION >= 60000
- *     #error "written for version 5 of rule_reader.h"
+ *     #if RULE_READER_VERSION < 60000 || RULE_READER_VERSION >= 70000
+ *     #error "written for version 6 of rule_reader.h"
  *     #endif
  */
-#define RULE_READER_VERSION_MAJOR 5
+#define RULE_READER_VERSION_MAJOR 6
 #define RULE_READER_VERSION_MINOR 0
 #define RULE_READER_VERSION_PATCH 0
 #define RULE_READER_VERSION \
@@ -65,7 +76,8 @@ enum {
     RULE_MAX_NODES = 1024,      /* nodes of a text, at most */
     RULE_NODE_WORDS = 6,        /* words to a node */
     RULE_TABLE_WORDS = RULE_NODE_WORDS * RULE_MAX_NODES, /* words of a node table that is long enough for every text */
-    RULE_BUFFER_BYTES = 16384   /* bytes of a buffer that is long enough for every canonical text */
+    RULE_BUFFER_BYTES = 16384,  /* bytes of a buffer that is long enough for every canonical text */
+    RULE_NAME_BYTES = 63        /* bytes of a buffer that is long enough for the characters of every name */
 };
 
 /*
@@ -73,10 +85,11 @@ enum {
  * given. 17 comes between 8 and 9: for each declaration 8, then 17, then 9.
  */
 enum rule_number {
-    RULE_READ = 0,                   /* read, or canonical text written; also of a blank rule */
+    RULE_READ = 0,                   /* read, or canonical text or a name written; also of a blank rule */
     RULE_TEXT_TOO_LONG = 1,          /* the text has more than 16,384 bytes; place 16384 */
     RULE_BAD_BYTE = 2,               /* a byte begins no token; the byte */
-    RULE_BAD_QUOTED_NAME = 3,        /* a quoted name is malformed or not closed; its opening quote */
+    RULE_BAD_QUOTED_NAME = 3,        /* a quoted name has no character, more than 63 or a byte not from 32 to 126, or is not closed
+                                        (two quotes in a row do not close it); its opening quote */
     RULE_TOKEN_TOO_LONG = 4,         /* a word or sign has more than 63 bytes, a number more than 9 digits; its start */
     RULE_TOO_MANY_TOKENS = 5,        /* there is a 1,025th token; its start */
     RULE_UNMATCHED = 6,              /* brackets or blocks do not match; the token, or the text's length if one is left open */
@@ -86,14 +99,15 @@ enum rule_number {
     RULE_BAD_OVERLOADING = 10,       /* an operator is both infix and postfix, and one breaks the four conditions; the `in` */
     RULE_NO_TREE = 11,               /* a span has no tree; 0 for the whole text, the `(`, or the `in`. A blank rule is read */
     RULE_TABLE_TOO_SHORT = 12,       /* rule_read: the node table has fewer than RULE_NODE_WORDS words for each node; 0 */
-    RULE_CANONICAL_TOO_LONG = 13,    /* rule_canonicalize: the canonical text is over the buffer or 16,384 bytes; 0 */
+    RULE_CANONICAL_TOO_LONG = 13,    /* rule_canonicalize: the canonical text is over the buffer or 16,384 bytes; rule_write_name:
+                                        the characters are over the buffer; 0 */
     RULE_RESERVED_OPERATOR = 17      /* a complete declaration is of `and`, `or` or `not`; the operator */
 };
 
 /*
- * The answer of both services. Number RULE_READ: offset 0, and count is how many nodes or bytes were written, 0 exactly if the text
- * is a blank rule. Any other number is a refusal: offset is its place, count is 0, and no word or byte of the table or buffer has
- * changed.
+ * The answer of each service. Number RULE_READ: offset 0, and count is how many nodes or bytes were written; of rule_read and
+ * rule_canonicalize 0 exactly if the text is a blank rule. Any other number is a refusal: offset is its place, count is 0, and no
+ * word or byte of the table or buffer has changed.
  */
 struct rule_answer {
     uint8_t number;
@@ -116,7 +130,7 @@ enum rule_word {
 
 /* The kinds of a node: its children, and its part of the text. */
 enum rule_kind {
-    RULE_NAME = 1,       /* none; the characters, without quotes */
+    RULE_NAME = 1,       /* none; the bytes as written, of a quoted name those between the outer quotes; see rule_write_name */
     RULE_NUMBER = 2,     /* none; the digits */
     RULE_PREFIX = 3,     /* the operand; the operator */
     RULE_INFIX = 4,      /* the left and the right operand; the operator */
@@ -136,13 +150,29 @@ struct rule_answer rule_read(const uint8_t *text, size_t text_length, uint32_t *
 
 /*
  * Writes the canonical text of a text into a buffer: no bracket that means nothing, no leading zeros, no quotes that a name does
- * not need, one space between tokens. Every bracket in it matters: without one matching pair it is another rule or none.
+ * not need, one space between tokens. A quote in a quoted name is written as two again. Every bracket in it matters: without one
+ * matching pair it is another rule or none.
  * `buffer_length` counts bytes. No zero byte is added; bytes behind the canonical text keep their contents. The canonical text of a
  * blank rule is empty, and of no other rule.
  * Gives RULE_READ and the refusals 1 to 11, 13 and 17; 1 to 11 and 17 exactly where rule_read gives them, at the same place.
  * With RULE_BUFFER_BYTES bytes 13 is given only where the canonical text is longer than 16,384 bytes, which no buffer helps.
  */
 struct rule_answer rule_canonicalize(const uint8_t *text, size_t text_length, uint8_t *buffer, size_t buffer_length);
+
+/*
+ * Writes the characters of the name at a node into a buffer: its bytes as written, of two quotes one. `nodes` is the node table of
+ * the text as rule_read left it, and `nodes_length` counts its words; the whole table that was lent will do. `node` is the node's
+ * number. The count is how many characters were written. No zero byte is added; bytes behind them keep their contents.
+ * Gives RULE_READ, and 13 exactly if the buffer is shorter than the characters. RULE_NAME_BYTES bytes are enough for every name.
+ *
+ * The text is not read again, and the words of the table may be any: answer and buffer are settled for all inputs. The bytes taken
+ * are those from the node's offset on, as many as its length says, as far as there is text; none if the table does not have all
+ * RULE_NODE_WORDS words of the node. From left to right, of each quote and the byte behind it the quote alone is written; every
+ * other byte is written. The node's kind is not looked at: of a number or an operator this gives its bytes, of a block those from
+ * `let` to `in`, of a bracket nothing.
+ */
+struct rule_answer rule_write_name(const uint8_t *text, size_t text_length, const uint32_t *nodes, size_t nodes_length, size_t node,
+                                   uint8_t *buffer, size_t buffer_length);
 
 #ifdef __cplusplus
 }

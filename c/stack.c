@@ -1,5 +1,5 @@
 /*
- * Measures the stack of both services on the texts that need the most, and fails above the bounds. Each call runs on a thread
+ * Measures the stack of the three services on the texts that need the most, and fails above the bounds. Each call runs on a thread
  * whose stack was filled with a pattern; what it needed reaches from the caller's frame down to the lowest byte that changed.
  * Each is called twice, with two patterns, so that a byte which happens to be the pattern's hides nothing.
  */
@@ -13,8 +13,10 @@
 #include <string.h>
 #include <sys/mman.h>
 
+enum service { READ, CANONICALIZE, WRITE_NAME, SERVICES };
+
 /* What the header tells a user. */
-enum { READ_MOST = 192 * 1024, CANONICALIZE_MOST = 96 * 1024 };
+static const size_t allowed[SERVICES] = {192 * 1024, 96 * 1024, 4 * 1024};
 
 enum { STACK = 1024 * 1024 };
 
@@ -25,7 +27,7 @@ static uint8_t buffer[RULE_BUFFER_BYTES];
 
 /* One call: which service, its answer, and the address of the caller's frame. */
 struct call {
-    int canonicalize;
+    enum service service;
     struct rule_answer answer;
     uint8_t *frame;
 };
@@ -34,10 +36,12 @@ static void *run(void *argument)
 {
     struct call *call = argument;
     call->frame = __builtin_frame_address(0);
-    if (call->canonicalize)
+    if (call->service == READ)
+        call->answer = rule_read((const uint8_t *)text, strlen(text), nodes, RULE_TABLE_WORDS);
+    else if (call->service == CANONICALIZE)
         call->answer = rule_canonicalize((const uint8_t *)text, strlen(text), buffer, RULE_BUFFER_BYTES);
     else
-        call->answer = rule_read((const uint8_t *)text, strlen(text), nodes, RULE_TABLE_WORDS);
+        call->answer = rule_write_name((const uint8_t *)text, strlen(text), nodes, RULE_TABLE_WORDS, 0, buffer, RULE_BUFFER_BYTES);
     return NULL;
 }
 
@@ -65,28 +69,33 @@ static size_t measure(struct call *call, uint8_t pattern)
     return (size_t)(call->frame - (stack + lowest));
 }
 
-static size_t needed(int canonicalize, struct rule_answer *answer)
+static size_t needed(enum service service, struct rule_answer *answer)
 {
-    struct call call = {canonicalize, {0, 0, 0}, NULL};
+    struct call call = {service, {0, 0, 0}, NULL};
     size_t first = measure(&call, 0xA5), second = measure(&call, 0x5A);
     *answer = call.answer;
     return first > second ? first : second;
 }
 
-static size_t read_most, canonicalize_most;
+static size_t most[SERVICES];
 
-/* Measures the text of the last `add`s, which both services answer with `number`; begins a new text. */
+/*
+ * Measures the text of the last `add`s, which rule_read and rule_canonicalize answer with `number`, and rule_write_name on the
+ * first node of its table, or of the last table if it is refused; begins a new text.
+ */
 static void row(const char *name, enum rule_number number)
 {
-    struct rule_answer read, canonical;
-    size_t for_read = needed(0, &read), for_canonical = needed(1, &canonical);
-    printf("%-56s %6zu %9zu %13zu\n", name, strlen(text), for_read, for_canonical);
-    if (read.number != number || canonical.number != number)
-        stop("another answer than expected");
-    if (for_read > read_most)
-        read_most = for_read;
-    if (for_canonical > canonicalize_most)
-        canonicalize_most = for_canonical;
+    printf("%-56s %6zu", name, strlen(text));
+    for (int service = READ; service < SERVICES; service++) {
+        struct rule_answer answer;
+        size_t found = needed((enum service)service, &answer);
+        printf(" %13zu", found);
+        if (answer.number != (service == WRITE_NAME ? RULE_READ : number))
+            stop("another answer than expected");
+        if (found > most[service])
+            most[service] = found;
+    }
+    printf("\n");
     text[0] = 0;
 }
 
@@ -141,6 +150,19 @@ static void try_short(void)
     row("128 bytes: 48 x ` ~` of a block", RULE_READ);
     repeat("let prefix right 100 ~ ; in", 1); repeat(" ~", 48); repeat(" a end", 1);
     row("129 bytes: 48 x ` ~` of a block", RULE_READ);
+}
+
+/* Names of 63 quotes, each written as two. */
+static void try_names(void)
+{
+    repeat("'", 128);
+    row("a name of 63 quotes", RULE_READ);
+    repeat("'", 128);
+    for (int i = 0; i < 124; i++) {
+        repeat("+", 1);
+        repeat("'", 128);
+    }
+    row("125 names of 63 quotes", RULE_READ);
 }
 
 /* The builder calls itself for each operator. */
@@ -204,17 +226,21 @@ int main(void)
         stop("no memory");
     /* The first call of memcpy and memset needs stack to find them. */
     repeat("let infix left 1 o ; in a o b end", 1);
-    for (struct call first = {0, {0, 0, 0}, NULL}; first.canonicalize < 2; first.canonicalize++)
+    for (int service = READ; service < SERVICES; service++) {
+        struct call first = {(enum service)service, {0, 0, 0}, NULL};
         run(&first);
+    }
     text[0] = 0;
 
-    printf("%-56s %6s %9s %13s\n", "stack in bytes", "text", "read", "canonicalize");
+    printf("%-56s %6s %13s %13s %13s\n", "stack in bytes", "text", "read", "canonicalize", "write_name");
     try_short();
+    try_names();
     try_operators();
     try_nested();
-    printf("%-56s %6s %9zu %13zu\n", "the most", "", read_most, canonicalize_most);
-    printf("%-56s %6s %9d %13d\n", "allowed", "", READ_MOST, CANONICALIZE_MOST);
-    if (read_most > READ_MOST || canonicalize_most > CANONICALIZE_MOST)
-        stop("more stack than the bound");
+    printf("%-56s %6s %13zu %13zu %13zu\n", "the most", "", most[READ], most[CANONICALIZE], most[WRITE_NAME]);
+    printf("%-56s %6s %13zu %13zu %13zu\n", "allowed", "", allowed[READ], allowed[CANONICALIZE], allowed[WRITE_NAME]);
+    for (int service = READ; service < SERVICES; service++)
+        if (most[service] > allowed[service])
+            stop("more stack than the bound");
     return 0;
 }

@@ -1,7 +1,7 @@
 /*
- * A test of both services by what must hold of every call: damaged texts, random texts, lent parts of every length around the
- * result. A text begins or ends at a page that may not be touched. Before and behind the lent part of a table or buffer stands
- * a pattern.
+ * A test of the three services by what must hold of every call: damaged texts, random texts, lent parts of every length around the
+ * result. A text, and a table that is only read, begin or end at a page that may not be touched. Before and behind the lent part of
+ * a table or buffer that is written to stands a pattern.
  */
 #define _DEFAULT_SOURCE
 #include "rule_reader.h"
@@ -14,8 +14,8 @@
 #include <sys/mman.h>
 #include <unistd.h>
 
-#if RULE_READER_VERSION < 50000 || RULE_READER_VERSION >= 60000
-#error "written for version 5 of rule_reader.h"
+#if RULE_READER_VERSION < 60000 || RULE_READER_VERSION >= 70000
+#error "written for version 6 of rule_reader.h"
 #endif
 
 _Static_assert(RULE_NODE_WORDS == 6 && RULE_NODE_PRECEDENCE == RULE_NODE_WORDS - 1, "six words to a node, the precedence last");
@@ -24,8 +24,9 @@ _Static_assert(offsetof(struct rule_answer, offset) == 8 && offsetof(struct rule
 
 enum { MARGIN = 64, SPARE = 100, LONGEST = 2 * RULE_MAX_TEXT, MAX_PRECEDENCE = 1200 };
 
-/* Room for a text between two pages without access. */
+/* Room for a text between two pages without access, and the same for a table. */
 static uint8_t *text_start, *text_end;
+static uint32_t *words_start, *words_end;
 static uint32_t table[MARGIN + RULE_TABLE_WORDS + SPARE + MARGIN];
 static uint8_t bytes[MARGIN + RULE_BUFFER_BYTES + SPARE + MARGIN];
 
@@ -102,7 +103,7 @@ static bool is_blank(const uint8_t *text, size_t length)
     return length <= RULE_MAX_TEXT;
 }
 
-/* What both answers have in common; `written` is the count in items of the lent part, `lent` its length. */
+/* What rule_read and rule_canonicalize have in common; `written` is the count in items of the lent part, `lent` its length. */
 static void check_answer(const uint8_t *text, size_t length, struct rule_answer answer, size_t written, size_t lent)
 {
     CHECK(is_number(answer.number), "number %d", answer.number);
@@ -200,7 +201,83 @@ static struct rule_answer call_canonicalize(const uint8_t *text, size_t length, 
     return answer;
 }
 
-/* ---- both services on one text */
+/* The characters of the name at a node, by what the header says of all inputs; how many. */
+static size_t name_of(const uint8_t *text, size_t length, const uint32_t *words, size_t words_length, size_t node, uint8_t *name)
+{
+    if (node >= words_length / RULE_NODE_WORDS)
+        return 0;
+    size_t offset = words[RULE_NODE_WORDS * node + RULE_NODE_OFFSET], size = words[RULE_NODE_WORDS * node + RULE_NODE_LENGTH];
+    size_t end = offset + size < length ? offset + size : length, count = 0;
+    bool behind_quote = false;
+    for (size_t i = offset; i < end; i++) {
+        if (!behind_quote)
+            name[count++] = text[i];
+        behind_quote = !behind_quote && text[i] == 39;
+    }
+    return count;
+}
+
+/* rule_write_name into a lent part of `lent` bytes, which has the name or stays as it was. */
+static struct rule_answer call_write_name(const uint8_t *text, size_t length, const uint32_t *words, size_t words_length,
+                                          size_t node, size_t lent)
+{
+    static uint8_t name[LONGEST];
+    size_t all = MARGIN + lent + MARGIN, needed = name_of(text, length, words, words_length, node, name);
+    uint8_t *start = put_text(text, length);
+    uint32_t *lent_words = below(2) == 0 ? words_start : words_end - words_length;
+    if (words_length != 0)
+        memcpy(lent_words, words, sizeof(uint32_t) * words_length);
+    for (size_t i = 0; i < all; i++)
+        bytes[i] = (uint8_t)(pattern(i) >> 24);
+    struct rule_answer answer = rule_write_name(start, length, lent_words, words_length, node, bytes + MARGIN, lent);
+    size_t count = needed <= lent ? needed : 0;
+    int number = needed <= lent ? RULE_READ : RULE_CANONICAL_TOO_LONG;
+    CHECK(answer.number == number && answer.offset == 0 && answer.count == count,
+          "rule_write_name, node %zu of %zu words into %zu bytes: %d at %zu, count %zu", node, words_length, lent, answer.number,
+          answer.offset, answer.count);
+    CHECK(memcmp(name, bytes + MARGIN, count) == 0, "rule_write_name, node %zu: other characters", node);
+    CHECK(length == 0 || memcmp(start, text, length) == 0, "rule_write_name changed the text");
+    CHECK(words_length == 0 || memcmp(lent_words, words, sizeof(uint32_t) * words_length) == 0,
+          "rule_write_name changed the table");
+    for (size_t i = 0; i < all; i++)
+        CHECK((i >= MARGIN && i < MARGIN + count) || bytes[i] == (uint8_t)(pattern(i) >> 24), "rule_write_name: byte %zu of %zu",
+              i - MARGIN, lent);
+    by_number[answer.number]++;
+    calls++;
+    return answer;
+}
+
+/* A name with lent parts of several lengths around what is needed. */
+static void try_name(const uint8_t *text, size_t length, const uint32_t *words, size_t words_length, size_t node)
+{
+    size_t most = length < RULE_BUFFER_BYTES ? length : RULE_BUFFER_BYTES;
+    size_t needed = call_write_name(text, length, words, words_length, node, most).count;
+    call_write_name(text, length, words, words_length, node, needed);
+    call_write_name(text, length, words, words_length, node, needed + 1);
+    call_write_name(text, length, words, words_length, node, needed == 0 ? 0 : needed - 1);
+    call_write_name(text, length, words, words_length, node, 0);
+}
+
+/* Some nodes of a table that rule_read wrote, a number past them, the table cut short, and odd words. */
+static void try_nodes(const uint8_t *text, size_t length, const uint32_t *nodes, size_t count)
+{
+    static uint32_t words[4 * RULE_NODE_WORDS];
+    size_t all = RULE_NODE_WORDS * count;
+    for (size_t i = 0; i < 4; i++) {
+        size_t node = i < count && count <= 4 ? i : below(count + 1), cut = below(all + 1);
+        try_name(text, length, nodes, all, node);
+        if (node < count && nodes[RULE_NODE_WORDS * node] == RULE_NAME)
+            call_write_name(text, length, nodes, all, node, RULE_NAME_BYTES);
+        call_write_name(text, length, nodes, cut, cut / RULE_NODE_WORDS, 10);
+        call_write_name(text, length, nodes, all, (size_t)bits(), 10);
+        call_write_name(text, length, nodes, all, SIZE_MAX / RULE_NODE_WORDS + below(3), 10);
+    }
+    for (size_t i = 0; i < sizeof words / sizeof *words; i++)
+        words[i] = below(3) == 0 ? (uint32_t)bits() : (uint32_t)below(length + 3);
+    try_name(text, length, words, sizeof words / sizeof *words, below(4));
+}
+
+/* ---- the services on one text */
 
 /* A text with its node table. */
 struct reading {
@@ -214,7 +291,10 @@ static const uint32_t *node_at(const struct reading *reading, uint32_t i)
     return node[RULE_NODE_KIND] == RULE_BRACKET ? node_at(reading, node[RULE_NODE_FIRST]) : node;
 }
 
-/* Whether two trees agree, brackets aside: names by characters, numbers by value, operators by bytes; declarations not compared. */
+/*
+ * Whether two trees agree, brackets aside: names by characters, which are the same exactly if the bytes as written are, numbers by
+ * value, operators by bytes; declarations not compared.
+ */
 static bool agree(const struct reading *a, uint32_t i, const struct reading *b, uint32_t j)
 {
     const uint32_t *n = node_at(a, i), *m = node_at(b, j);
@@ -239,7 +319,7 @@ static bool agree(const struct reading *a, uint32_t i, const struct reading *b, 
         && (kind != RULE_INFIX || agree(a, n[RULE_NODE_SECOND], b, m[RULE_NODE_SECOND]));
 }
 
-/* Both services with lent parts that are long enough. */
+/* rule_read and rule_canonicalize with lent parts that are long enough, rule_write_name on some nodes. */
 static struct rule_answer try_text(const void *bytes_of_text, size_t length)
 {
     static struct reading first, second;
@@ -255,13 +335,16 @@ static struct rule_answer try_text(const void *bytes_of_text, size_t length)
         return read;
     }
     CHECK(answer.number == RULE_READ || answer.number == RULE_CANONICAL_TOO_LONG, "read, but refused %d", answer.number);
-    if (answer.number != RULE_READ)
+    first.text = text;
+    memcpy(first.nodes, table + MARGIN, sizeof(uint32_t) * RULE_NODE_WORDS * read.count);
+    if (answer.number != RULE_READ) {
+        try_nodes(text, length, first.nodes, read.count);
         return read;
+    }
 
     /* The canonical text reads to a tree that agrees, or is a blank rule as the text is; and it is its own canonical text. */
     memcpy(canonical, bytes + MARGIN, answer.count);
-    first.text = text;
-    memcpy(first.nodes, table + MARGIN, sizeof(uint32_t) * RULE_NODE_WORDS * read.count);
+    try_nodes(text, length, first.nodes, read.count);
     struct rule_answer again = call_read(canonical, answer.count, RULE_TABLE_WORDS);
     CHECK(again.number == RULE_READ && again.count <= read.count, "canonical text read: %d, count %zu", again.number, again.count);
     CHECK((again.count == 0) == (read.count == 0), "canonical text read: count %zu, before %zu", again.count, read.count);
@@ -317,6 +400,8 @@ static const char *const texts[] = {
     "let plain * ; infix left 0650 && ; in * && ( let in 'x y' end ) && '*' end or 000",
     "let infix left 0700 and ; plain or ; in a end",
     "let prefix right 1200 # ; postfix non 001 ? ; in # # ( ( a ? ) * ( 'b' ) ) end",
+    "''''", "'a'''", "name = 'O''Neill' or 'D''Souza' = ''''''",
+    "let postfix left 9 s ; in 's' s = ('s''') end",
 };
 
 static void try_prefixes(const char *text)
@@ -343,8 +428,8 @@ static void try_random(int rounds)
 {
     static const char alphabet[] = "aab ()';=+-*<0123 \t\n_:&";
     static const char *const tokens[] = {
-        "a", "b", "'a'", "'not'", "7", "00", "(", ")", "( a )", "=", "<", "+", "-", "*", "and", "or", "not", "let", "in", "end",
-        ";", "infix", "prefix", "postfix", "plain", "left", "right", "non", "400", "0400", "1200",
+        "a", "b", "'a'", "'not'", "'O''Neill'", "''''", "'a''", "7", "00", "(", ")", "( a )", "=", "<", "+", "-", "*", "and", "or",
+        "not", "let", "in", "end", ";", "infix", "prefix", "postfix", "plain", "left", "right", "non", "400", "0400", "1200",
         "let infix left 400 r ; in", "let prefix right 400 + ; in", "let plain - ; in", "let plain or ; in", "a + b",
     };
     static char text[4096];
@@ -406,6 +491,24 @@ static void try_limits(void)
     repeat("a , b", 1); expect(RULE_BAD_BYTE, 2, 0);
     repeat("a + 'b", 1); expect(RULE_BAD_QUOTED_NAME, 4, 0);
     repeat("''", 1); expect(RULE_BAD_QUOTED_NAME, 0, 0);
+    repeat("''''", 1); expect(RULE_READ, 0, 1);
+    repeat("'a''", 1); expect(RULE_BAD_QUOTED_NAME, 0, 0);
+    repeat("'a'''", 1); expect(RULE_READ, 0, 1);
+    repeat("'a'''b'", 1); expect(RULE_BAD_QUOTED_NAME, 6, 0);
+    repeat("'a''b'", 1); expect(RULE_READ, 0, 1);
+    repeat("'a' 'b'", 1); expect(RULE_NO_TREE, 0, 0);
+    repeat("'a''\x7E'", 1); expect(RULE_READ, 0, 1);
+    repeat("'a''\x7F'", 1); expect(RULE_BAD_QUOTED_NAME, 0, 0);
+    repeat("'a''\x1F'", 1); expect(RULE_BAD_QUOTED_NAME, 0, 0);
+    repeat("'", 1); repeat("a", 63); repeat("'", 1); expect(RULE_READ, 0, 1);
+    repeat("'", 1); repeat("a", 64); repeat("'", 1); expect(RULE_BAD_QUOTED_NAME, 0, 0);
+    repeat("'", 1); repeat("a", 62); repeat("'''", 1); expect(RULE_READ, 0, 1);
+    repeat("'", 1); repeat("a", 63); repeat("'''", 1); expect(RULE_BAD_QUOTED_NAME, 0, 0);
+    repeat("'", 1); repeat("a", 63); repeat("''y'", 1); expect(RULE_BAD_QUOTED_NAME, 0, 0);
+    repeat("'", 1); repeat("a''", 31); repeat("a'", 1); expect(RULE_READ, 0, 1);
+    repeat("'", 1); repeat("a''", 32); repeat("'", 1); expect(RULE_BAD_QUOTED_NAME, 0, 0);
+    repeat("a = '", 1); repeat("''", 63); repeat("'", 1); expect(RULE_READ, 0, 3);
+    repeat("a = '", 1); repeat("''", 64); repeat("'", 1); expect(RULE_BAD_QUOTED_NAME, 4, 0);
     repeat("a", 63); expect(RULE_READ, 0, 1);
     repeat("a", 64); expect(RULE_TOKEN_TOO_LONG, 0, 0);
     repeat("1234567890", 1); expect(RULE_TOKEN_TOO_LONG, 0, 0);
@@ -538,6 +641,8 @@ static void try_cases(void)
         {"a + b * 3", "a + b * 3"}, {"((a)) * (b + c)", "a * ( b + c )"}, {"'not' = '12'", "'not' = '12'"},
         {"a+b", "a + b"}, {"( 000 ) < 'a' * 0012", "0 < a * 12"},
         {"let infix left 0650 && ; in 'a' && 'and' end", "let infix left 650 && ; in a && 'and' end"},
+        {"(name)='O''Neill'", "name = 'O''Neill'"}, {"''''", "''''"}, {"'a'''", "'a'''"}, {"'in''' = 'in'", "'in''' = 'in'"},
+        {"'O' = O", "O = O"}, {"'+''' + '++'", "'+''' + ++"},
     };
     const uint8_t *text = (const uint8_t *)"a + b * 3";
     size_t length = 9;
@@ -617,6 +722,62 @@ static void try_short_tables(void)
     }
 }
 
+/* The nodes and the names of document 02's quoted names; what the words of a table that nobody read give. */
+static void try_names(void)
+{
+    static const uint32_t nodes[] = {
+        RULE_NAME, 0, 0, 0, 4, 0,
+        RULE_NAME, 0, 0, 8, 8, 0,
+        RULE_INFIX, 0, 1, 5, 1, 500,
+        RULE_NAME, 0, 0, 24, 2, 0,
+        RULE_BRACKET, 3, 0, 0, 0, 0,
+        RULE_NUMBER, 0, 0, 32, 2, 0,
+        RULE_INFIX, 4, 5, 30, 1, 400,
+        RULE_INFIX, 2, 6, 18, 2, 800,
+    };
+    static const char *const names[] = {"name", "O'Neill", "=", "'", "", "07", "+", "or"};
+    /* Offset, length and what is written of them. */
+    static const struct {
+        uint32_t offset, size;
+        const char *name;
+    } odd[] = {
+        {8, 8, "O'Neill"}, {7, 10, "''Neill'"}, {7, 3, "''"}, {8, 2, "O'"}, {8, 3, "O'"}, {10, 3, "'e"}, {7, 1, "'"}, {16, 1, "'"},
+        {16, 0, ""}, {31, 99, " 07"}, {33, UINT32_MAX, "7"}, {34, 1, ""}, {35, 1, ""}, {UINT32_MAX, UINT32_MAX, ""},
+    };
+    static uint32_t words[4 * RULE_NODE_WORDS];
+    const uint8_t *text = (const uint8_t *)"name = 'O''Neill' or ( '''' ) + 07";
+    size_t length = strlen((const char *)text), count = sizeof names / sizeof *names;
+    /* The nodes alone, and as the front of a whole lent table. */
+    static uint32_t lent_table[RULE_TABLE_WORDS];
+    const size_t words_lent[] = {RULE_NODE_WORDS * count, RULE_TABLE_WORDS};
+    memcpy(lent_table, nodes, sizeof nodes);
+    struct rule_answer answer = call_read(text, length, RULE_TABLE_WORDS);
+    CHECK(answer.number == RULE_READ && answer.count == count && memcmp(nodes, table + MARGIN, sizeof nodes) == 0, "quoted names");
+    for (size_t i = 0; i < count; i++) {
+        size_t size = strlen(names[i]);
+        for (size_t j = 0; j < 2; j++) {
+            for (size_t lent = 0; lent <= size + 10; lent++) {
+                answer = call_write_name(text, length, lent_table, words_lent[j], i, lent);
+                CHECK(answer.number == (lent < size ? RULE_CANONICAL_TOO_LONG : RULE_READ), "name %zu: %d", i, answer.number);
+                CHECK(answer.number != RULE_READ || (answer.count == size && memcmp(names[i], bytes + MARGIN, size) == 0),
+                      "name %zu: count %zu", i, answer.count);
+            }
+        }
+        /* Cut short by a word, the table does not have the node. */
+        answer = call_write_name(text, length, nodes, RULE_NODE_WORDS * (i + 1) - 1, i, 10);
+        CHECK(answer.number == RULE_READ && answer.count == 0, "name %zu of a table cut short: %zu", i, answer.count);
+    }
+    for (size_t i = 0; i < sizeof odd / sizeof *odd; i++) {
+        for (size_t j = 0; j < sizeof words / sizeof *words; j++)
+            words[j] = (uint32_t)bits();
+        words[2 * RULE_NODE_WORDS + RULE_NODE_OFFSET] = odd[i].offset;
+        words[2 * RULE_NODE_WORDS + RULE_NODE_LENGTH] = odd[i].size;
+        answer = call_write_name(text, length, words, sizeof words / sizeof *words - below(RULE_NODE_WORDS + 1), 2, 20);
+        CHECK(answer.count == strlen(odd[i].name) && memcmp(odd[i].name, bytes + MARGIN, answer.count) == 0,
+              "odd words %zu: count %zu", i, answer.count);
+    }
+}
+
 static void expect_at_0(const uint8_t *text, size_t length, struct rule_answer answer, enum rule_number number)
 {
     check_answer(text, length, answer, 0, 0);
@@ -627,6 +788,7 @@ static void expect_at_0(const uint8_t *text, size_t length, struct rule_answer a
 /* Zero lengths, with a pointer to a page that may not be touched, and with null. */
 static void try_empty(void)
 {
+    static const uint32_t node[RULE_NODE_WORDS] = {RULE_NAME, 0, 0, 0, 1, 0};
     const uint8_t *text = (const uint8_t *)"a", *blank = (const uint8_t *)" ";
     for (int null = 0; null < 2; null++) {
         uint8_t *nowhere = null ? NULL : text_end;
@@ -637,24 +799,38 @@ static void try_empty(void)
         expect_at_0(blank, 1, rule_canonicalize(blank, 1, nowhere, 0), RULE_READ);
         expect_at_0(text, 1, rule_read(text, 1, no_words, 0), RULE_TABLE_TOO_SHORT);
         expect_at_0(text, 1, rule_canonicalize(text, 1, nowhere, 0), RULE_CANONICAL_TOO_LONG);
+        expect_at_0(text, 0, rule_write_name(nowhere, 0, no_words, 0, 0, nowhere, 0), RULE_READ);
+        expect_at_0(text, 0, rule_write_name(nowhere, 0, node, RULE_NODE_WORDS, 0, nowhere, 0), RULE_READ);
+        expect_at_0(blank, 1, rule_write_name(blank, 1, no_words, 0, 0, nowhere, 0), RULE_READ);
+        expect_at_0(text, 1, rule_write_name(text, 1, node, RULE_NODE_WORDS, 0, nowhere, 0), RULE_CANONICAL_TOO_LONG);
     }
+}
+
+/* Room for `size` bytes, rounded up to pages, between two pages without access; its end. */
+static uint8_t *room_for(size_t size, uint8_t **end)
+{
+    size_t page = (size_t)sysconf(_SC_PAGESIZE);
+    size_t room = (size + page - 1) / page * page;
+    uint8_t *pages = mmap(NULL, page + room + page, PROT_NONE, MAP_PRIVATE | MAP_ANONYMOUS, -1, 0);
+    if (pages == MAP_FAILED || mprotect(pages + page, room, PROT_READ | PROT_WRITE) != 0) {
+        perror("mmap");
+        exit(1);
+    }
+    *end = pages + page + room;
+    return pages + page;
 }
 
 int main(void)
 {
-    size_t page = (size_t)sysconf(_SC_PAGESIZE);
-    size_t room = (LONGEST + page - 1) / page * page;
-    uint8_t *pages = mmap(NULL, page + room + page, PROT_NONE, MAP_PRIVATE | MAP_ANONYMOUS, -1, 0);
-    if (pages == MAP_FAILED || mprotect(pages + page, room, PROT_READ | PROT_WRITE) != 0) {
-        perror("mmap");
-        return 1;
-    }
-    text_start = pages + page;
-    text_end = text_start + room;
+    uint8_t *end;
+    text_start = room_for(LONGEST, &text_end);
+    words_start = (uint32_t *)(void *)room_for(sizeof(uint32_t) * RULE_TABLE_WORDS, &end);
+    words_end = (uint32_t *)(void *)end;
 
     try_cases();
     try_precedences();
     try_short_tables();
+    try_names();
     try_empty();
     try_limits();
     try_blank();

@@ -1,6 +1,7 @@
 //! The reader of document 01, with document 02's reserved operators, blank
-//! rules, precedences of nodes and wider overloading rule: a text in, a node
-//! table or canonical text out.
+//! rules, precedences of nodes, wider overloading rule and quotes in quoted
+//! names: a text in, a node table or canonical text out. A third service writes
+//! the characters of a name.
 //!
 //! Four linear passes: tokens (checks 1 to 5), nesting (6, 7), operators in
 //! force (8, 17, 9, 10), trees (11). Nothing is written before check 12, or 13
@@ -9,6 +10,7 @@
 
 pub mod canonical;
 pub mod list;
+pub mod name;
 pub mod nesting;
 pub mod operators;
 pub mod role;
@@ -31,7 +33,8 @@ pub const NODE_WORDS: usize = 6;
 /// Words of a node table that is long enough for every text.
 pub const TABLE_WORDS: usize = NODE_WORDS * MAX_NODES;
 
-/// Read: number 0, offset 0, count nodes or bytes written, 0 of a blank rule.
+/// Read: number 0, offset 0, count nodes or bytes written, 0 of a blank rule
+/// and where a name has none.
 /// Rejected: the check's number, its offset, count 0.
 #[derive(Clone, Copy, Debug, PartialEq, Eq)]
 pub struct Answer {
@@ -83,6 +86,14 @@ pub fn canonicalize(text: &[u8], buffer: &mut [u8]) -> Answer {
     let mut tree = List::new();
     let analyzed = analyze(text, &mut tokens, &mut tree);
     Answer::new(analyzed.and_then(|()| canonical::write(text, &tokens, &tree, buffer)))
+}
+
+/// Writes the characters of the name at a node to the front of `buffer`: how
+/// many, or 13 if the buffer is shorter, and then no byte changes. `nodes` is
+/// the node table of `text`, but may be any words.
+#[inline(never)]
+pub fn write_name(text: &[u8], nodes: &[u32], node: usize, buffer: &mut [u8]) -> Answer {
+    Answer::new(name::write(name::written(text, nodes, node), buffer))
 }
 
 /// Document 02, section 7: "A text that is empty or all blanks, past check 1,

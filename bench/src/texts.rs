@@ -2,6 +2,7 @@
 
 mod damage;
 mod limits;
+mod quoted;
 mod random;
 mod rules;
 
@@ -51,11 +52,17 @@ fn blank_text(random: &mut Random) -> Vec<u8> {
     text
 }
 
+/// Any bytes, mostly quotes, or those of a rule.
 fn random_bytes(random: &mut Random) -> Vec<u8> {
     let common = b"ab1 + - * () ; 'not'\tlet in end\n_,\"";
+    let quotes = b"'''''''a b+";
     let len = random.below(60);
-    let uniform = random.one_in(4);
-    let mut byte = || if uniform { random.below(256) as u8 } else { *random.pick(common) };
+    let style = random.below(5);
+    let mut byte = || match style {
+        0 => random.below(256) as u8,
+        1 => *random.pick(quotes),
+        _ => *random.pick(common),
+    };
     (0..len).map(|_| byte()).collect()
 }
 
@@ -71,8 +78,13 @@ pub fn random_token(random: &mut Random) -> Vec<u8> {
         "let", "in", "end", "or", "and", "not", "=", "<", "+", "-", "*", "-", "infix", "prefix", "postfix",
         "plain", "left", "right", "non", "400", "1200", "0", "s", "==>", "''", "'", "_", ",",
         "let infix left 400 s ; in", "let postfix left 400 s ; in", "let plain + ; in", "let in",
+        "'O''Neill'", "''''", "'s'''", "'a''", "'''", "'''a'",
     ];
-    random.pick(TOKENS).as_bytes().to_vec()
+    match random.below(40) {
+        0 => quoted::short(random),
+        1 => quoted::damaged(random),
+        _ => random.pick(TOKENS).as_bytes().to_vec(),
+    }
 }
 
 /// One space between, random blanks, or none where the tokens stay apart.
@@ -109,6 +121,10 @@ fn stay_apart(text: &[u8], token: &[u8]) -> bool {
     let (Some(&last), Some(&first)) = (text.last(), token.first()) else { return true };
     let is_word = |byte: u8| byte.is_ascii_alphanumeric() || byte == b'_';
     let is_sign = |byte: u8| byte.is_ascii_punctuation() && !is_word(byte) && !b"();'".contains(&byte);
-    let merge = is_word(last) && is_word(first) || is_sign(last) && is_sign(first);
+    // The quotes of two quoted names would be one character of one name.
+    let is_quote = |byte: u8| byte == b'\'';
+    let merge = is_word(last) && is_word(first)
+        || is_sign(last) && is_sign(first)
+        || is_quote(last) && is_quote(first);
     !merge
 }

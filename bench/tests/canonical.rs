@@ -40,7 +40,7 @@ fn subtree(text: &[u8], nodes: &Nodes, node: usize) -> Tree {
     let bytes = &text[offset as usize..][..len as usize];
     let child = |node: u32| subtree(text, nodes, node as usize);
     match kind {
-        1 => Tree::Name(bytes.to_vec()),
+        1 => Tree::Name(characters(bytes)),
         2 => Tree::Number(value(bytes)),
         4 => Tree::Operator(kind, bytes.to_vec(), vec![child(first), child(second)]),
         3 | 5 => Tree::Operator(kind, bytes.to_vec(), vec![child(first)]),
@@ -50,6 +50,12 @@ fn subtree(text: &[u8], nodes: &Nodes, node: usize) -> Tree {
             Tree::Block(declarations.collect(), Box::new(child(first)))
         }
     }
+}
+
+/// The characters of a name as it is written without its outer quotes: two
+/// quotes are one.
+fn characters(written: &[u8]) -> Vec<u8> {
+    String::from_utf8(written.to_vec()).unwrap().replace("''", "'").into()
 }
 
 fn value(digits: &[u8]) -> u32 {
@@ -76,17 +82,27 @@ fn tokens(text: &[u8]) -> Vec<(usize, &[u8])> {
         let first = class(text[at]);
         let belongs = |&&byte: &&u8| match (first, class(byte)) {
             ('a', class) => "a0".contains(class),
-            ('\'', class) => class != '\'',
             ('(' | ')' | ';' | ' ', _) => false,
             (first, class) => first == class,
         };
-        let len = 1 + text[at + 1..].iter().take_while(belongs).count() + usize::from(first == '\'');
+        let len = match first {
+            '\'' => quoted_len(&text[at..]),
+            _ => 1 + text[at + 1..].iter().take_while(belongs).count(),
+        };
         if first != ' ' {
             tokens.push((at, &text[at..at + len]));
         }
         at += len;
     }
     tokens
+}
+
+/// The length of the quoted name in front: up to the first place that has an
+/// even number of quotes before it, the opening one included, and none behind.
+fn quoted_len(text: &[u8]) -> usize {
+    let quotes = |len: usize| text[..len].iter().filter(|&&byte| byte == b'\'').count();
+    let ends = |&len: &usize| quotes(len) % 2 == 0 && text.get(len) != Some(&b'\'');
+    (2..=text.len()).find(ends).unwrap()
 }
 
 /// The canonical text, if it is no longer than 16,384 bytes.
@@ -239,8 +255,6 @@ fn texts_that_agree() {
     assert!(same > 8000 && blank > 200, "{same} {blank}");
 }
 
-/// The canonical text goes to the front of a buffer that holds it; else 13,
-/// and no byte changes.
 /// Declarations of `p` and `q`: operators of one precedence that differ in
 /// associativity, operators of several roles, and, as document 02, section 2,
 /// has them, roles that differ in precedence.
@@ -286,6 +300,8 @@ fn fewest_tokens() {
     assert!(shorter > 500 && with_brackets > 200, "{shorter} {with_brackets}");
 }
 
+/// The canonical text goes to the front of a buffer that holds it; else 13,
+/// and no byte changes.
 #[test]
 fn buffers() {
     let mut texts = Texts::new(23);
@@ -360,6 +376,7 @@ fn examples() {
             "let infix right 400 R ; in ( 1 R 2 ) + ( 3 R 4 + 5 ) end",
         ),
         ("let plain + ; in ('+') end + ((let in (1 + 2) end))", "let plain + ; in + end + let in 1 + 2 end"),
+        ("(name)='O''Neill'or('D''Souza')=name", "name = 'O''Neill' or 'D''Souza' = name"),
     ] {
         let written = canonical(text.as_bytes()).map(|written| String::from_utf8(written).unwrap());
         assert_eq!(written.as_deref(), Ok(expected), "{text}");

@@ -51,12 +51,15 @@ fn tokens(text: &[u8]) -> Result<Vec<Token>, Refusal> {
             '0' => (run(&|b| class(b) == '0'), 9),
             '\'' => {
                 let inside = &text[start + 1..];
-                let len = inside.iter().position(|&b| b == b'\'').ok_or((3, start))?;
-                let fit = (1..64).contains(&len) && inside[..len].iter().all(|b| (32..127).contains(b));
+                let len = closing_quote(inside).ok_or((3, start))?;
+                let name = &inside[..len];
+                // Document 02: half of the quotes are characters.
+                let characters = len - name.iter().filter(|b| **b == b'\'').count() / 2;
+                let fit = (1..64).contains(&characters) && name.iter().all(|b| (32..127).contains(b));
                 if !fit {
                     return Err((3, start));
                 }
-                (len + 2, 65)
+                (len + 2, 128)
             }
             '?' => return Err((2, start)),
             _ => (1, 1),
@@ -72,6 +75,16 @@ fn tokens(text: &[u8]) -> Result<Vec<Token>, Refusal> {
         tokens.push(Token { start, bytes, class: class_here });
     }
     Ok(tokens)
+}
+
+/// The closing quote of a quoted name, of which the text behind the opening one
+/// is given: the last of the first run of quotes that is odd in number.
+fn closing_quote(inside: &[u8]) -> Option<usize> {
+    let mut runs = inside.chunk_by(|a, b| a == b).scan(0, |end, run| {
+        *end += run.len();
+        Some((*end, run))
+    });
+    runs.find(|(_, run)| run[0] == b'\'' && run.len() % 2 == 1).map(|(end, _)| end - 1)
 }
 
 /// For each opener its closer; for each `let` also its `in` in the second map.

@@ -117,7 +117,8 @@ fn each_token(text: &[u8], tokens: &[Token], brackets: &[Brackets], mut put: imp
 }
 
 /// A number without leading zeros, a name without quotes where it can do
-/// without; any other token as it is.
+/// without; any other token as it is. A name that stays quoted has its quotes
+/// doubled, and that is how it was written.
 #[inline(always)]
 fn canonical_bytes<'t>(text: &'t [u8], token: &Token) -> &'t [u8] {
     let bytes = token.bytes(text);

@@ -7,7 +7,7 @@ use super::token::{Kind, Token};
 use super::{MAX_OPERATORS, MAX_PRECEDENCE, Reject};
 
 /// Marks each word or sign with a role in force as an operator, and each
-/// quoted name that can stand bare.
+/// quoted name that can stand bare by its characters.
 pub fn resolve(text: &[u8], tokens: &mut [Token]) -> Result<(), Reject> {
     let mut table = Table::new(text);
     let mut at = 0;

@@ -4,6 +4,7 @@ use super::list::List;
 use super::role::Operator;
 use super::{MAX_TOKENS, Reject};
 
+/// Bytes of a word or sign, characters of a quoted name.
 const MAX_NAME: usize = 63;
 const MAX_DIGITS: usize = 9;
 
@@ -12,7 +13,8 @@ pub enum Kind {
     Word,
     Sign,
     Number,
-    /// A quoted name; once resolved, whether it can stand bare where it is.
+    /// A quoted name, its quotes and each character as written (see `name`);
+    /// once resolved, whether it can stand bare where it is.
     Quoted {
         bare: bool,
     },
@@ -62,8 +64,10 @@ impl Token {
         &text[self.start as usize..][..self.len as usize]
     }
 
-    /// The word or sign between the quotes of a quoted name, if it is one and
-    /// no keyword.
+    /// The word or sign that the characters of a quoted name are, if they are
+    /// one and no keyword. A quote is part of no word or sign, so what is
+    /// written between the outer quotes is looked at: it has a quote exactly if
+    /// the characters have one, and else it is the characters.
     pub fn unquoted(&self, text: &[u8]) -> Option<Token> {
         let start = self.start as usize + 1;
         let text = &text[..start + self.len as usize - 2];
@@ -160,13 +164,20 @@ fn sign(text: &[u8], start: usize) -> (usize, u64, Kind) {
     (end, key, Kind::Sign)
 }
 
-/// The end of the quoted name that opens at `start`, if it is well formed.
+/// The end of the quoted name that opens at `start`, if it is well formed: 1
+/// to 63 characters, two quotes in a row for a quote.
 #[inline(always)]
 fn quoted_end(text: &[u8], start: usize) -> Option<usize> {
-    let inside = text[start + 1..].iter().take(MAX_NAME + 1);
-    let len = inside.take_while(|b| matches!(b, 32..=126) && **b != b'\'').count();
-    let close = start + 1 + len;
-    ((1..=MAX_NAME).contains(&len) && text.get(close) == Some(&b'\'')).then_some(close + 1)
+    let mut at = start + 1;
+    for characters in 0..=MAX_NAME {
+        match text.get(at)? {
+            b'\'' if text.get(at + 1) == Some(&b'\'') => at += 2,
+            b'\'' => return (characters > 0).then_some(at + 1),
+            32..=126 => at += 1,
+            _ => return None,
+        }
+    }
+    None
 }
 
 #[inline(always)]
@@ -209,7 +220,7 @@ pub fn scan(text: &[u8], tokens: &mut List<Token, MAX_TOKENS>) -> Result<bool, R
                 (end, 0, Kind::Number, MAX_DIGITS)
             }
             Class::Quote => match quoted_end(text, start) {
-                Some(end) => (end, 0, Kind::Quoted { bare: false }, MAX_NAME + 2),
+                Some(end) => (end, 0, Kind::Quoted { bare: false }, 2 * MAX_NAME + 2),
                 None => return Err(Reject::new(3, start)),
             },
             Class::Delimiter => {

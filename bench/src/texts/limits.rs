@@ -1,10 +1,10 @@
 //! Texts at each limit, just inside and just outside.
 
-use super::{Random, Tokens, join, random_token};
+use super::{Random, Tokens, join, quoted, random_token};
 
 pub fn text(random: &mut Random) -> Vec<u8> {
     let over = random.index(2);
-    let mut tokens = match random.below(9) {
+    let mut tokens = match random.below(11) {
         0 => return bytes(random, 16_384 + over),
         1 => return tokens(random, 1024 + over),
         8 => return canonical(random, 16_384 + over),
@@ -12,6 +12,7 @@ pub fn text(random: &mut Random) -> Vec<u8> {
         3 | 4 => operators(random, 64 + over),
         5 => names(random, 63 + over),
         6 => digits(random, 9 + over),
+        9 | 10 => quoted_names(random),
         _ => precedence(random, over),
     };
     if random.one_in(10) {
@@ -62,6 +63,7 @@ fn canonical(random: &mut Random, len: usize) -> Vec<u8> {
             1 => format!("+'{}'", "n".repeat(name)),
             2 => format!("+'{}'", " ".repeat(name - 2)),
             3 => format!("+ {} ", "?".repeat(name)),
+            4 if name % 2 == 0 => format!("+'{}'", "''".repeat(name / 2 - 1)),
             _ => format!("+{}", "n".repeat(name)),
         };
         text.extend(piece.as_bytes());
@@ -161,6 +163,30 @@ fn names(random: &mut Random, len: usize) -> Tokens {
         _ => format!("let plain {word} ; in {quoted} < {word} end"),
     };
     split(&text)
+}
+
+/// Quoted names of 62 to 64 characters, many of them quotes, and malformed
+/// ones, alone and beside other tokens.
+fn quoted_names(random: &mut Random) -> Tokens {
+    let mut name = || {
+        let len = *random.pick(&[62, 63, 63, 63, 63, 63, 64]);
+        if random.one_in(8) { quoted::damaged(random) } else { quoted::long(random, len) }
+    };
+    let (one, two) = (name(), name());
+    let other = *random.pick(&["a", "'a'", "''''", "7"]);
+    let around = |front: &str, behind: &str| {
+        let mut tokens = split(front);
+        tokens.push(one.clone());
+        tokens.extend(split(behind));
+        tokens
+    };
+    match random.below(5) {
+        0 => vec![one],
+        1 => vec![one, b"=".to_vec(), two],
+        2 => around("not ( a +", &format!(") or {other}")),
+        3 => around("let postfix left 400 s ; in", &format!("s = {other} end")),
+        _ => around("let plain", "; in a end"),
+    }
 }
 
 fn digits(random: &mut Random, count: usize) -> Tokens {

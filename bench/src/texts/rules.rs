@@ -1,9 +1,9 @@
 //! Well-formed rules: trees over a table of operators, a bracket round most
 //! operands that their place does not admit and round some others; blocks whose
 //! declarations mostly pass the checks; names in quotes where they need them
-//! and where not.
+//! and where not, some with quotes in them.
 
-use super::{Random, Tokens};
+use super::{Random, Tokens, quoted};
 
 #[derive(Clone, Copy, PartialEq)]
 enum Side {
@@ -40,7 +40,7 @@ const NAMES: &[&str] = &[
 const LEAVES: &[&str] = &[
     "a", "b", "c", "a1", "x_y", "A", "prefix", "postfix", "right", "a", "b", "0", "1", "42", "007",
     "999999999", "000000000", "'a'", "'not'", "'a b'", "'+'", "'end'", "'let'", "'('", "'12'", "/", "::",
-    "p______p_",
+    "p______p_", "'O''Neill'", "'D''Souza'", "''''", "'a'''",
 ];
 
 fn start() -> Vec<Operator> {
@@ -180,17 +180,23 @@ impl Rules<'_> {
             0 => self.name(RESERVED),
             1..10 => self.name(NAMES),
             10..30 if !self.declared.is_empty() => self.name(&self.declared.clone()),
-            30..40 => format!("{}{}", self.zeros(), self.random.below(1000)),
-            _ => self.random.pick(LEAVES).to_string(),
+            30..40 => format!("{}{}", self.zeros(), self.random.below(1000)).into(),
+            40..43 => quoted::short(self.random),
+            _ => self.random.pick(LEAVES).as_bytes().to_vec(),
         };
-        Expression { tokens: vec![leaf.into()], precedence: 0, right: false }
+        Expression { tokens: vec![leaf], precedence: 0, right: false }
     }
 
-    /// A name in quotes if it is an operator here, else half of the time.
-    fn name(&mut self, names: &[&str]) -> String {
+    /// A name in quotes if it is an operator here, else half of the time; now
+    /// and then with a quote before or behind it, which is another name.
+    fn name(&mut self, names: &[&str]) -> Vec<u8> {
         let name = *self.random.pick(names);
+        if self.random.one_in(8) && name.len() < 63 {
+            let [before, behind] = *self.random.pick(&[["", "'"], ["'", ""]]);
+            return quoted::quoted(format!("{before}{name}{behind}").as_bytes());
+        }
         let in_force = self.operators.iter().any(|o| o.name == name && o.roles != [None; 3]);
-        if in_force || self.random.one_in(2) { format!("'{name}'") } else { name.into() }
+        if in_force || self.random.one_in(2) { format!("'{name}'").into() } else { name.into() }
     }
 
     /// At most five, often none.
@@ -302,8 +308,9 @@ impl Rules<'_> {
             ";", "infix", "'infix' left 4 s ;", "plain let ;", "plain end ;", "infix left 400 ( ;",
             "INFIX left 400 s ;", "plain unknown ;", "plain and", "plain 'and' ;", "plain or or ;",
             "infix left 0 and ;", "prefix left 600 not ;", "infix left 700 and", "infix left 'or' ;",
-            "plain not ;", "infix left 700 and ;", "postfix left 700 and ;", "prefix right 600 not ;",
-            "infix right 1200 or ;", "plain or ; plain s", "plain s plain or ;",
+            "plain 's''' ;", "infix left 4 '''' ;", "plain not ;", "infix left 700 and ;",
+            "postfix left 700 and ;", "prefix right 600 not ;", "infix right 1200 or ;",
+            "plain or ; plain s", "plain s plain or ;",
         ];
         let spoilt = self.random.pick(SPOILT);
         tokens.extend(spoilt.split(' ').map(|token| token.into()));

@@ -11,7 +11,7 @@ use Rattle.grammar.specs.Tree.{flat}
 use Rattle.grammar.specs.Canonical.{canonical, canonicalText}
 use Rattle.grammar.specs.Answer.{Reading, readingText}
 use Rattle.rows.specs.Fields.{Holds}
-use Rattle.rows.specs.Tokens.{charactersOf}
+use Rattle.rows.specs.Tokens.{writtenOf}
 use Rattle.rows.specs.Reading.{Ready}
 use Rattle.rows.proofs.Fields.{within}
 use Rattle.canonical_text.specs.Pieces.{parts, joinPieces, Prepared}
@@ -46,6 +46,6 @@ module _ {text : Bytes} {K R O : List ℕ} {r : Reading} (h : Ready text K R O r
     pub ready-prepared : {K₂ : List ℕ} {total : ℕ} → TrimmedRow text R K₁ n K₂ total → Prepared text K₂ n r total
     ready-prepared {K₂} {total} t = record {
       inText = t .inText;
-      joined = ap joinPieces (parts-same (charactersOf text K₂) (partOf text R K₁) 0 n (λ j l m. t .left j (omega arith))) ∙ joined;
+      joined = ap joinPieces (parts-same (writtenOf text K₂) (partOf text R K₁) 0 n (λ j l m. t .left j (omega arith))) ∙ joined;
       counted = t .counted ∙ ap length joined;
     }

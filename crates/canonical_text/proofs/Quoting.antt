@@ -1,4 +1,4 @@
--- Whether a quoted name stays quoted, by the roles in the row; with the roles in force there, whether its characters are an operator.
+-- Whether a quoted name stays quoted, by the roles in the row; with the roles in force there, whether its bytes are an operator.
 use mathlib.Core.Path.{_≡_, refl, ap}
 use mathlib.Core.Bool.{true, _||_, not, or-true}
 use mathlib.Core.List.{List}
@@ -8,7 +8,7 @@ use native.Mathlib.Omega.{arith}
 use lib.Dec.{eqb}
 use borrow.Author.Tests.{eq-eqb, ne-eqb}
 use Rattle.grammar.specs.Bytes.{Bytes}
-use Rattle.grammar.specs.Token.{quoted, isSymbol}
+use Rattle.grammar.specs.Token.{quoted, isSymbol, doubled}
 use Rattle.grammar.specs.Operator.{Prefix, Infix, Postfix, Role, Table, role, isSome, hasRole, inForce}
 use Rattle.rows.specs.Fields.{prefix, infixed, postfix}
 use Rattle.rows.specs.Codes.{roleCode}
@@ -39,7 +39,15 @@ unfolding isSome roleCode
 code-there none = refl
 code-there (some r) = ap not (ne-eqb (roleCode (some r)) 0 (λ e. omega (arith, code-some r)))
 
-pub roles-noted : (T : Table) (R : List ℕ) (i : ℕ) (c : Bytes) → Noted T R i (quoted c) → hasRoles R i ≡ inForce T c
+pub roles-noted : (T : Table) (R : List ℕ) (i : ℕ) (c : Bytes) → Noted T R i (quoted c) → hasRoles R i ≡ inForce T (doubled c)
 unfolding hasRoles inForce hasRole rolesFor
 roles-noted T R i c n =
-    rw (n .prefixed, n .between, n .postfixed, hasRoles, code-there (role T c Prefix), code-there (role T c Infix), code-there (role T c Postfix))
+    rw (
+      n .prefixed,
+      n .between,
+      n .postfixed,
+      hasRoles,
+      code-there (role T (doubled c) Prefix),
+      code-there (role T (doubled c) Infix),
+      code-there (role T (doubled c) Postfix),
+    )

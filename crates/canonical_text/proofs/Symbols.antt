@@ -26,8 +26,8 @@ use Rattle.grammar.specs.Token.{
 }
 use Rattle.grammar.specs.Scan.{run, keywordOrSymbol}
 use Rattle.grammar.specs.Coded.{kindOf}
-use Rattle.grammar.proofs.Logic.{and-right, and-intro}
-use Rattle.grammar.proofs.Runs.{every-cons, letter-inWord, signs, isRun}
+use Rattle.grammar.proofs.Logic.{and-right, and-intro, every-cons}
+use Rattle.grammar.proofs.Runs.{letter-inWord, signs, isRun}
 use Rattle.grammar.proofs.Taken.{sign-makes}
 use Rattle.canonical_text.specs.Trimming.{IsName}
 
@@ -72,7 +72,8 @@ sign-symbol (b ∷ s) n c = run-all inSign (b ∷ s) ∙ go (every inSign (b ∷
     go true e =
         let f : isRun signs (b ∷ s) ≡ true =
         and-intro (eq-eqb (class b) sign c) (and-right (inSign b) (every inSign s) (sym (every-cons inSign b s) ∙ e)) in
-        e ∙ sym (sign-makes (b ∷ s) f (n .1) .valid)
+        let g : isSign (b ∷ s) ≡ true = sign-every b s ∙ e in
+        e ∙ sym (sign-makes (b ∷ s) f (n .1 (rw (no-word b s (λ z. omega arith)) g)) .valid)
     go false e = e ∙ no-symbol (b ∷ s) (no-word b s (λ z. omega arith)) (sign-every b s ∙ e)
 
 -- A letter first.
@@ -94,7 +95,8 @@ word-symbol [] n c r = absurd (omega arith)
 word-symbol (b ∷ s) n c r =
     let e : isWord (b ∷ s) ≡ true =
     word-every b s c ∙ sym (run-all inWord (b ∷ s)) ∙ eq-eqb (run inWord (b ∷ s)) (length (b ∷ s)) r in
-    keyword-symbol (b ∷ s) (ap (λ x. x || isSign (b ∷ s)) e) (n .1)
+    let g : isWord (b ∷ s) || isSign (b ∷ s) ≡ true = ap (λ x. x || isSign (b ∷ s)) e in
+    keyword-symbol (b ∷ s) g (n .1 g)
 
 pub word-no-symbol : (w : Bytes) → IsName w → class (getD w 0 0) ≡ letter → (run inWord w ≡ length w → ⊥) → false ≡ isSymbol w
 word-no-symbol [] n c d = absurd (omega arith)

@@ -23,6 +23,7 @@ use Rattle.grammar.specs.Token.{
   keywordLet,
   keywordIn,
   keywordEnd,
+  doubled,
   spelling,
   isSymbol,
   isToken,
@@ -178,7 +179,7 @@ name-some T c e = go (isSymbol c && not (inForce T c)) refl
     go true h =
         let z : length c ≡ 0 = rw (h, writtenName) at e in
         omega (arith, token-bytes (atom (symbol c)) (and-left (isSymbol c) (not (inForce T c)) h))
-    go false h = let z : length (39 ∷ c ++ 39 ∷ []) ≡ 0 = rw (h, writtenName) at e in omega arith
+    go false h = let z : length (39 ∷ doubled c ++ 39 ∷ []) ≡ 0 = rw (h, writtenName) at e in omega arith
 
 module _ {text : Bytes} {ps : List Placed} {K : List ℕ} (v : Stored text ps K) {T₀ : Table} {t₀ : Tree} {K₁ : List ℕ} (k : KeptRow K T₀ t₀ K₁) (R : List ℕ) where
   abbrev f : ℕ → Bytes

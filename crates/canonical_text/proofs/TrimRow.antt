@@ -7,7 +7,7 @@ use lib.ListN.{length, drop, length-take, length-drop}
 use Rattle.grammar.specs.Bytes.{Bytes}
 use Rattle.grammar.proofs.Logic.{below}
 use Rattle.rows.specs.Fields.{field, start, size, Within, Holds}
-use Rattle.rows.specs.Tokens.{charactersOf}
+use Rattle.rows.specs.Tokens.{writtenOf}
 use Rattle.rows.proofs.Fields.{within}
 use Rattle.canonical_text.specs.Pieces.{before, parts, spacedPieces}
 use Rattle.canonical_text.specs.Trimming.{leaves, partOf, Trimmable, Trimmed, TrimmedRow}
@@ -15,11 +15,11 @@ use Rattle.canonical_text.proofs.Parts.{before-none, parts-end, parts-n
 
 -- A row with the same token `i`.
 module _ (text : Bytes) (R K K′ : List ℕ) (i : ℕ) (same : (k : ℕ) → k < 4 → field 4 k K′ i ≡ field 4 k K i) where
-  characters-same : charactersOf text K′ i ≡ charactersOf text K i
-  characters-same = rw (same 1 (omega arith), same 2 (omega arith))
+  written-same : writtenOf text K′ i ≡ writtenOf text K i
+  written-same = rw (same 1 (omega arith), same 2 (omega arith))
 
   part-same : partOf text R K′ i ≡ partOf text R K i
-  part-same = ap₂ (leaves R i) (same 0 (omega arith)) characters-same
+  part-same = ap₂ (leaves R i) (same 0 (omega arith)) written-same
 
   trimmable-same : length K′ ≡ length K → Trimmable text R K i → Trimmable text R K′ i
   trimmable-same e h =
@@ -40,7 +40,7 @@ pub record TrimmedTo (text : Bytes) (R K : List ℕ) (n at total : ℕ) (K′ : 
   pub upto : at ≤ n
   pub long : length K′ ≡ length K
   pub later : (k j : ℕ) → k < 4 → at ≤ j → field 4 k K′ j ≡ field 4 k K j
-  pub left : (j : ℕ) → j < at → charactersOf text K′ j ≡ partOf text R K j
+  pub left : (j : ℕ) → j < at → writtenOf text K′ j ≡ partOf text R K j
   pub within : (j : ℕ) → j < at → start K′ j + size K′ j ≤ length text
   pub sum :
       total + length (spacedPieces (parts (partOf text R K) at (n - at))) ≡ length (spacedPieces (parts (partOf text R K) 0 n))
@@ -69,7 +69,7 @@ module _ {text : Bytes} {R K : List ℕ} {n : ℕ} (rows : Holds 4 K n) (h : (j 
         pub in-row : Within 4 K″ at
         in-row = let w = within 4 n K at rows l in (w .0, omega (arith, t .long, v .long, w .1))
 
-        left-here : charactersOf text K″ at ≡ partOf text R K at
+        left-here : writtenOf text K″ at ≡ partOf text R K at
         left-here = t .part ∙ part-same text R K K′ at (λ k m. v .later k at m (omega arith))
 
         sized-here : size K″ at ≡ length (partOf text R K at)
@@ -90,7 +90,7 @@ module _ {text : Bytes} {R K : List ℕ} {n : ℕ} (rows : Holds 4 K n) (h : (j 
           later = λ k j m q. t .others k j m (λ e. omega arith) ∙ v .later k j m (omega arith);
           left =
               λ j q. below j at
-              (λ m. characters-same text R K′ K″ j (λ k p. t .others k j p (λ e. omega arith)) ∙ v .left j m)
+              (λ m. written-same text R K′ K″ j (λ k p. t .others k j p (λ e. omega arith)) ∙ v .left j m)
               (λ m. let e : j ≡ at = omega arith in rw e left-here);
           within =
               λ j q. below j at

@@ -1,4 +1,4 @@
--- What a token leaves, and the row with that for its characters: a number's digits behind its zeros, a quoted name with its quotes or without
+-- What a token leaves, and the row with that for its bytes: a number's digits behind its zeros, a quoted name with its quotes or without
 -- them, any other token as it is.
 use mathlib.Core.Path.{_≡_, refl, sym, ap, subst, _∙_}
 use mathlib.Core.Bool.{Bool, true, false}
@@ -12,9 +12,9 @@ use Rattle.grammar.specs.Bytes.{Bytes}
 use Rattle.grammar.specs.Canonical.{strip}
 use Rattle.byte_strings.proofs.Suffixes.{part-whole}
 use Rattle.rows.specs.Fields.{field, store, kind, start, size, Within}
-use Rattle.rows.specs.Tokens.{charactersOf}
+use Rattle.rows.specs.Tokens.{writtenOf}
 use Rattle.rows.proofs.Fields.{store-same, other-field, other-entry, store-length}
-use Rattle.canonical_text.specs.Trimming.{staysQuoted, leaves, partOf, IsName, Trimmable, withCharacters, Trimmed}
+use Rattle.canonical_text.specs.Trimming.{staysQuoted, leaves, partOf, IsName, Trimmable, withBytes, Trimmed}
 
 -- By the kind of the token.
 module _ (R : List ℕ) (i : ℕ) {k : ℕ} (c : Bytes) where
@@ -34,25 +34,25 @@ module _ (R : List ℕ) (i : ℕ) {k : ℕ} (c : Bytes) where
   unfolding leaves
   part-plain d e = rw (ne-eqb k 2 d, leaves, ne-eqb k 3 e)
 
--- A row with other characters for a token.
+-- A row with other bytes for a token.
 module _ (K : List ℕ) (i s n : ℕ) where
-  with-long : length (withCharacters K i s n) ≡ length K
+  with-long : length (withBytes K i s n) ≡ length K
   with-long = store-length 4 2 (store 4 1 K i s) i n ∙ store-length 4 1 K i s
 
-  with-others : (k j : ℕ) → k < 4 → (i ≡ j → ⊥) → field 4 k (withCharacters K i s n) j ≡ field 4 k K j
+  with-others : (k j : ℕ) → k < 4 → (i ≡ j → ⊥) → field 4 k (withBytes K i s n) j ≡ field 4 k K j
   with-others k j l d =
       other-entry 4 2 k (store 4 1 K i s) i j n (omega arith) l d ∙ other-entry 4 1 k K i j s (omega arith) l d
 
   module _ (w : Within 4 K i) where
-    with-start : start (withCharacters K i s n) i ≡ s
+    with-start : start (withBytes K i s n) i ≡ s
     with-start = other-field 4 2 1 (store 4 1 K i s) i i n (omega arith) (omega arith) (λ e. omega arith) ∙ store-same 4 1 K i s (omega arith) w
 
-    with-size : size (withCharacters K i s n) i ≡ n
+    with-size : size (withBytes K i s n) i ≡ n
     with-size = store-same 4 2 (store 4 1 K i s) i n (omega arith) (w .0, omega (arith, store-length 4 1 K i s, w .1))
 
     -- The token trimmed so.
     trimmed-with :
-        {text : Bytes} {R K′ : List ℕ} → K′ ≡ withCharacters K i s n → take n (drop s text) ≡ partOf text R K i → s + n ≤ length text
+        {text : Bytes} {R K′ : List ℕ} → K′ ≡ withBytes K i s n → take n (drop s text) ≡ partOf text R K i → s + n ≤ length text
         → Trimmed text R K i K′
     trimmed-with {text} {R} {K′} e p l =
         rw e (record {
@@ -68,34 +68,34 @@ drop-take z n l h k =
     ap (λ m. drop z (take m l)) e ∙ ap (drop z) (take-add z (n - z) l) ∙ drop-at (take z l) (take (n - z) (drop z l)) z (length-take-le z l k)
 
 module _ {text : Bytes} {R K : List ℕ} {i : ℕ} (h : Trimmable text R K i) where
-  characters-long : length (charactersOf text K i) ≡ size K i
-  characters-long = length-take (size K i) (drop (start K i) text) ∙ omega (arith, h .within, length-drop (start K i) text)
+  written-long : length (writtenOf text K i) ≡ size K i
+  written-long = length-take (size K i) (drop (start K i) text) ∙ omega (arith, h .within, length-drop (start K i) text)
 
   -- Left as it is.
-  untouched : charactersOf text K i ≡ partOf text R K i → Trimmed text R K i K
+  untouched : writtenOf text K i ≡ partOf text R K i → Trimmed text R K i K
   untouched e = record { long = refl; others = λ k j l d. refl; part = e; within = h .within }
 
   pub trimmed-plain : (kind K i ≡ 2 → ⊥) → (kind K i ≡ 3 → ⊥) → Trimmed text R K i K
   trimmed-plain d e = untouched (sym (part-plain R i _ d e))
 
-  -- The characters, cut out of the text.
+  -- The bytes, cut out of the text.
   module _ (s n : ℕ) (d : s ≡ start K i) (e : n ≡ size K i) where
-    cut-is : take (s + n - s) (drop s text) ≡ charactersOf text K i
+    cut-is : take (s + n - s) (drop s text) ≡ writtenOf text K i
     cut-is = part-whole text s n ∙ rw (d, e)
 
     pub number-cut : kind K i ≡ 2 → 1 ≤ length (take (s + n - s) (drop s text))
-    number-cut k = omega (arith, ap length cut-is, characters-long, h .number k)
+    number-cut k = omega (arith, ap length cut-is, written-long, h .number k)
 
     pub name-cut : kind K i ≡ 3 → IsName (take (s + n - s) (drop s text))
     name-cut k = subst IsName (sym cut-is) (h .name k)
 
     pub cut-short : {z : ℕ} → z < length (take (s + n - s) (drop s text)) → z < n
-    cut-short l = omega (arith, ap length cut-is, characters-long)
+    cut-short l = omega (arith, ap length cut-is, written-long)
 
     pub trimmed-number :
         kind K i ≡ 2 → (z : ℕ) → z < length (take (s + n - s) (drop s text))
         → drop z (take (s + n - s) (drop s text)) ≡ strip (take (s + n - s) (drop s text))
-        → {K′ : List ℕ} → K′ ≡ withCharacters K i (s + z) (n - z) → Trimmed text R K i K′
+        → {K′ : List ℕ} → K′ ≡ withBytes K i (s + z) (n - z) → Trimmed text R K i K′
     trimmed-number k z l f g =
         let y = cut-short l in
         let c = cut-is in
@@ -106,7 +106,7 @@ module _ {text : Bytes} {R K : List ℕ} {i : ℕ} (h : Trimmable text R K i) wh
 
     pub trimmed-quoted :
         kind K i ≡ 3 → {b : Bool} → b ≡ staysQuoted R i (take (s + n - s) (drop s text)) → b ≡ true
-        → {K′ : List ℕ} → K′ ≡ withCharacters K i (s - 1) (n + 2) → Trimmed text R K i K′
+        → {K′ : List ℕ} → K′ ≡ withBytes K i (s - 1) (n + 2) → Trimmed text R K i K′
     trimmed-quoted k f t g =
         let q = h .quoted k in
         trimmed-with K i (s - 1) (n + 2) (h .token) g

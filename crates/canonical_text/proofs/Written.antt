@@ -13,7 +13,7 @@ use Rattle.byte_strings.specs.Puts.{Put}
 use Rattle.byte_strings.proofs.Suffixes.{part-whole}
 use Rattle.byte_strings.proofs.Puts.{sets-then, sets-over}
 use Rattle.rows.specs.Fields.{start, size, Within}
-use Rattle.rows.specs.Tokens.{charactersOf}
+use Rattle.rows.specs.Tokens.{writtenOf}
 use Rattle.rows.proofs.Fields.{within}
 use Rattle.canonical_text.specs.Pieces.{pieces, spacedPieces, joinPieces, behind, InText}
 use Rattle.canonical_text.proofs.Parts.{before-none, before-some, parts-end, parts-next}
@@ -76,11 +76,11 @@ module _ {text : Bytes} {K : List ℕ} {to : ℕ} (h : InText text K to) where
     pub in-row : Within 4 K i
     in-row = within 4 to K i (h .rows) l
 
-    long-here : length (charactersOf text K i) ≡ size K i
+    long-here : length (writtenOf text K i) ≡ size K i
     long-here = length-take (size K i) (drop (start K i) text) ∙ omega (arith, h .within i l, length-drop (start K i) text)
 
     -- The part cut out of the text.
-    pub cut-here : {s z : ℕ} → s ≡ start K i → z ≡ size K i → take (s + z - s) (drop s text) ≡ charactersOf text K i
+    pub cut-here : {s z : ℕ} → s ≡ start K i → z ≡ size K i → take (s + z - s) (drop s text) ≡ writtenOf text K i
     cut-here {s} {z} d e = part-whole text s z ∙ rw (d, e)
 
     module _ {b₀ b : List ℕ} {n : ℕ} (v : Filled text K to b₀ b n i) where
@@ -88,33 +88,33 @@ module _ {text : Bytes} {K : List ℕ} {to : ℕ} (h : InText text K to) where
       pub fill-skip : size K i ≡ 0 → Filled text K to b₀ b n (suc i)
       fill-skip z =
           let e : pieces text K i (to - i) ≡ pieces text K (suc i) (to - suc i) =
-          parts-next (charactersOf text K) to i l ∙ before-none (charactersOf text K i) _ (long-here ∙ z) in
+          parts-next (writtenOf text K) to i l ∙ before-none (writtenOf text K i) _ (long-here ∙ z) in
           record { size = v .size; sum = rw (← e) (v .sum); stored = rw (← e) (v .stored) }
 
       -- A turn at any other.
       module _ (d : size K i ≡ 0 → ⊥) where
-        rest : (m : ℕ) → written n (pieces text K i (to - i)) ≡ behind n (charactersOf text K i) ++ written (suc m) (pieces text K (suc i) (to - suc i))
+        rest : (m : ℕ) → written n (pieces text K i (to - i)) ≡ behind n (writtenOf text K i) ++ written (suc m) (pieces text K (suc i) (to - suc i))
         rest m =
-            ap (written n) (parts-next (charactersOf text K) to i l ∙ before-some (charactersOf text K i) _ (λ z. d (sym long-here ∙ z)))
-            ∙ written-next n m (charactersOf text K i) (pieces text K (suc i) (to - suc i))
+            ap (written n) (parts-next (writtenOf text K) to i l ∙ before-some (writtenOf text K i) _ (λ z. d (sym long-here ∙ z)))
+            ∙ written-next n m (writtenOf text K i) (pieces text K (suc i) (to - suc i))
 
-        pub next-fits : {p : Bytes} → p ≡ charactersOf text K i → length (joinPieces (pieces text K 0 to)) ≤ length b₀ → n + length (behind n p) ≤ length b
+        pub next-fits : {p : Bytes} → p ≡ writtenOf text K i → length (joinPieces (pieces text K 0 to)) ≤ length b₀ → n + length (behind n p) ≤ length b
         next-fits e f =
-            rw e (omega (arith, v .size, v .sum, f, ap length (rest 0), length-append (behind n (charactersOf text K i)) (written 1 (pieces text K (suc i) (to - suc i)))))
+            rw e (omega (arith, v .size, v .sum, f, ap length (rest 0), length-append (behind n (writtenOf text K i)) (written 1 (pieces text K (suc i) (to - suc i)))))
 
-        pub fill-next : {b′ : List ℕ} {p : Bytes} {r : ℕ} → p ≡ charactersOf text K i → Put b n (behind n p) b′ r → Filled text K to b₀ b′ r (suc i)
+        pub fill-next : {b′ : List ℕ} {p : Bytes} {r : ℕ} → p ≡ writtenOf text K i → Put b n (behind n p) b′ r → Filled text K to b₀ b′ r (suc i)
         fill-next {b′} {p} {r} e w =
-            let q : Put b n (behind n (charactersOf text K i)) b′ r = rw e at w in
-            let s : r ≡ suc (r - 1) = omega (arith, q .size, some-written n (charactersOf text K i) (λ z. d (sym long-here ∙ z))) in
+            let q : Put b n (behind n (writtenOf text K i)) b′ r = rw e at w in
+            let s : r ≡ suc (r - 1) = omega (arith, q .size, some-written n (writtenOf text K i) (λ z. d (sym long-here ∙ z))) in
             let ps = pieces text K (suc i) (to - suc i) in
             let k = rest (r - 1) in
             let g : written r ps ≡ written (suc (r - 1)) ps = ap (λ m. written m ps) s in
             record {
-              size = ap length (q .stored) ∙ length-sets b n (behind n (charactersOf text K i)) ∙ v .size;
+              size = ap length (q .stored) ∙ length-sets b n (behind n (writtenOf text K i)) ∙ v .size;
               sum =
-                  omega (arith, v .sum, q .size, ap length k, ap length g, length-append (behind n (charactersOf text K i)) (written (suc (r - 1)) ps));
+                  omega (arith, v .sum, q .size, ap length k, ap length g, length-append (behind n (writtenOf text K i)) (written (suc (r - 1)) ps));
               stored =
-                  v .stored ∙ ap (sets b n) k ∙ sym (sets-then b n (behind n (charactersOf text K i)) (written (suc (r - 1)) ps))
+                  v .stored ∙ ap (sets b n) k ∙ sym (sets-then b n (behind n (writtenOf text K i)) (written (suc (r - 1)) ps))
                   ∙ rw (← q .stored, ← q .size, g) refl;
             }
 
@@ -122,5 +122,5 @@ module _ {text : Bytes} {K : List ℕ} {to : ℕ} (h : InText text K to) where
       {b₀ b : List ℕ} {n i : ℕ} → to ≤ i → length (joinPieces (pieces text K 0 to)) ≤ length b₀ → Filled text K to b₀ b n i
       → b ≡ over (joinPieces (pieces text K 0 to)) b₀
   fill-end {b₀} {b} {n} {i} l f v =
-      sym (ap (λ ps. sets b n (written n ps)) (parts-end (charactersOf text K) to i l) ∙ ap (sets b n) (written-none n))
+      sym (ap (λ ps. sets b n (written n ps)) (parts-end (writtenOf text K) to i l) ∙ ap (sets b n) (written-none n))
       ∙ sym (v .stored) ∙ sets-over (joinPieces (pieces text K 0 to)) b₀ f

@@ -6,7 +6,7 @@ use lib.ListN.{length}
 use Rattle.grammar.specs.Bytes.{Bytes}
 use Rattle.grammar.specs.Answer.{Reading, readingText}
 use Rattle.rows.specs.Fields.{start, size, Holds}
-use Rattle.rows.specs.Tokens.{charactersOf}
+use Rattle.rows.specs.Tokens.{writtenOf}
 
 -- A part before others, if it is not empty.
 unfoldable pub before : Bytes → List Bytes → List Bytes
@@ -18,9 +18,9 @@ unfoldable pub parts : (ℕ → Bytes) → ℕ → ℕ → List Bytes
 parts part i zero = []
 parts part i (suc n) = before (part i) (parts part (suc i) n)
 
--- The part that a token leaves is its characters in the row: nothing where their number is 0.
+-- The part that a token leaves is its bytes in the row: nothing where their number is 0.
 abbrev pub pieces : Bytes → List ℕ → ℕ → ℕ → List Bytes
-pieces text K i n = parts (charactersOf text K) i n
+pieces text K i n = parts (writtenOf text K) i n
 
 -- Parts with one space before each, and with one between.
 unfoldable pub spacedPieces : List Bytes → Bytes
@@ -36,7 +36,7 @@ unfoldable pub behind : ℕ → Bytes → Bytes
 behind zero p = p
 behind (suc n) p = 32 ∷ p
 
--- A row of `n` tokens whose characters lie in the text.
+-- A row of `n` tokens whose bytes lie in the text.
 pub record InText (text : Bytes) (K : List ℕ) (n : ℕ) : Type 0 where
   pub rows : Holds 4 K n
   pub within : (j : ℕ) → j < n → start K j + size K j ≤ length text

@@ -17,7 +17,7 @@ ghost use Rattle.rows.specs.Reading.{Ready};
 ghost use Rattle.scanner.specs.Classes.{IsTable};
 ghost use Rattle.byte_strings.specs.Puts.{Put};
 ghost use Rattle.canonical_text.specs.Pieces.{pieces, behind, joinPieces, InText, Prepared};
-ghost use Rattle.canonical_text.specs.Trimming.{staysQuoted, IsName, withCharacters, Trimmable, Trimmed, TrimmedRow};
+ghost use Rattle.canonical_text.specs.Trimming.{staysQuoted, IsName, withBytes, Trimmable, Trimmed, TrimmedRow};
 
 // How many leading zeros go: all that stand before another digit.
 fn zeros(digits: &[u8]) -> usize
@@ -51,7 +51,8 @@ fn is_symbol(table: &[u8; 256], name: &[u8]) -> bool
     false
 }
 
-// Whether a quoted name stays quoted: its characters have a role, or are no symbol.
+// Whether a quoted name stays quoted: its bytes as written have a role, or are no symbol. Where they have a quote they are none, and nor
+// are its characters; else they are its characters.
 fn stays_quoted(table: &[u8; 256], roles: &[u16], i: usize, name: &[u8]) -> bool
     requires { ⌜ IsTable (now table) × Within 4 (now roles) i × IsName (now name) ⌝ }
     ensures { λ r. ⌜ r ≡ staysQuoted (now (roles .entry)) i (now (name .entry)) ⌝ }
@@ -68,16 +69,16 @@ fn stays_quoted(table: &[u8; 256], roles: &[u16], i: usize, name: &[u8]) -> bool
     !is_symbol(table, name)
 }
 
-// The characters of token `i` begin at `start` and are `size`.
-fn set_characters(tokens: &mut [u16], i: usize, start: usize, size: usize)
+// The bytes of token `i` begin at `start` and are `size`.
+fn set_bytes(tokens: &mut [u16], i: usize, start: usize, size: usize)
     requires { ⌜ Within 4 (now tokens) i × (start < 65536) × (size < 65536) ⌝ }
-    ensures { λ _. ⌜ now (tokens .exit) ≡ withCharacters (now (tokens .entry)) i start size ⌝ }
+    ensures { λ _. ⌜ now (tokens .exit) ≡ withBytes (now (tokens .entry)) i start size ⌝ }
 {
     tokens_row::set_start(tokens, i, start);
     tokens_row::set_size(tokens, i, size);
 }
 
-// The part that token `i` leaves takes the place of its characters.
+// The part that token `i` leaves takes the place of its bytes. A quoted name is left as it is written, so its quotes stay doubled.
 fn trim_token(table: &[u8; 256], text: &[u8], roles: &[u16], tokens: &mut [u16], i: usize)
     requires { ⌜ IsTable (now table) × Trimmable (now text) (now roles) (now tokens) i ⌝ }
     ensures { λ _. ⌜ Trimmed (now (text .entry)) (now (roles .entry)) (now (tokens .entry)) i (now (tokens .exit)) ⌝ }
@@ -88,7 +89,7 @@ fn trim_token(table: &[u8; 256], text: &[u8], roles: &[u16], tokens: &mut [u16],
         let size = tokens_row::size(tokens, i);
         let e = start + size;
         let z = zeros(&text[start..e]);
-        set_characters(tokens, i, start + z, size - z);
+        set_bytes(tokens, i, start + z, size - z);
         return;
     }
     if kind == kinds::QUOTED {
@@ -96,7 +97,7 @@ fn trim_token(table: &[u8; 256], text: &[u8], roles: &[u16], tokens: &mut [u16],
         let size = tokens_row::size(tokens, i);
         let e = start + size;
         if stays_quoted(table, roles, i, &text[start..e]) {
-            set_characters(tokens, i, start - 1, size + 2);
+            set_bytes(tokens, i, start - 1, size + 2);
         }
     }
 }

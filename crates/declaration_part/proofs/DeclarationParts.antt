@@ -1,5 +1,5 @@
 -- The parts of a declaration over tokens. Each part of `declaration` looks at one token: behind the last token and at a token of another
--- kind it refuses, which is one law for all parts; at a token of its kind it goes on by the number that the characters stand for.
+-- kind it refuses, which is one law for all parts; at a token of its kind it goes on by the number that its bytes stand for.
 use mathlib.Core.Path.{_≡_, refl, sym, ap, _∙_}
 use mathlib.Core.Bool.{true, false}
 use mathlib.Core.List.{List, [], _∷_}

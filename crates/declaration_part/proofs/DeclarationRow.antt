@@ -1,5 +1,5 @@
 -- A declaration over a row of tokens. A part refuses where no token of its kind stands; where one stands, what the code reads at its place
--- are its characters, and the part goes on behind it, at the place behind the blanks.
+-- are its bytes, and the part goes on behind it, at the place behind the blanks.
 use mathlib.Core.Path.{_≡_, refl, sym, ap, ap₂, subst, _∙_}
 use mathlib.Core.Bool.{Bool, true, false}
 use mathlib.Core.List.{List, [], _∷_}
@@ -17,27 +17,27 @@ use Rattle.grammar.specs.Declaration.{Declaration, unfit, parsed, symbolOf, isS
 use Rattle.grammar.proofs.Logic.{clash}
 use Rattle.byte_strings.proofs.Suffixes.{run-within}
 use Rattle.rows.specs.Fields.{kind, start, size}
-use Rattle.rows.specs.Tokens.{charactersOf, tokenIn, tokensIn, range, Stored}
+use Rattle.rows.specs.Tokens.{writtenOf, tokenIn, tokensIn, range, Stored}
 use Rattle.rows.proofs.Ranges.{range-next}
-use Rattle.rows.proofs.Stored.{stored-kind, stored-offset, stored-characters, stored-next}
+use Rattle.rows.proofs.Stored.{stored-kind, stored-offset, stored-written, stored-next}
 use Rattle.declaration_part.specs.declared.parse.Parsed.{Parsed}
 use Rattle.declaration_part.specs.declared.parse.Parsed.the-variants.{Unfit}
 use Rattle.declaration_part.specs.Parsing.{nextPlace, Parses}
-use Rattle.declaration_part.specs.Parts.{stands, charactersFrom, operatorEnd}
+use Rattle.declaration_part.specs.Parts.{stands, writtenFrom, operatorEnd}
 use Rattle.declaration_part.proofs.Parts.{stands-here, stands-cases, standing, from-here, from-none, end-operator, end-semicolon, end-behind}
 use Rattle.declaration_part.proofs.DeclarationParts.{Refuses, operator-refuses, closed-refuses}
 
 -- What is read at a place of the text ends in the text, and so do the blanks behind it.
 module _ (k : ℕ) (text : Bytes) (K : List ℕ) (at to place : ℕ) (h : place ≤ length text) where
-  read-within : place + length (charactersFrom k text K at to place) ≤ length text
+  read-within : place + length (writtenFrom k text K at to place) ≤ length text
   read-within = go (stands k K at to) refl
     where
-      go : (b : Bool) → stands k K at to ≡ b → place + length (charactersFrom k text K at to place) ≤ length text
+      go : (b : Bool) → stands k K at to ≡ b → place + length (writtenFrom k text K at to place) ≤ length text
       go true s = rw (from-here k K at to text place s) (simp (length-take, length-drop) (omega arith))
       go false s = rw (from-none k K at to text place s) (omega arith)
 
   pub next-within :
-      (w : Bytes) → w ≡ charactersFrom k text K at to place
+      (w : Bytes) → w ≡ writtenFrom k text K at to place
       → (length w ≤ length text) × (nextPlace text place (length w) ≤ length text)
   unfolding nextPlace
   next-within w e =
@@ -61,15 +61,15 @@ module _ {text : Bytes} {ps : List Placed} {K : List ℕ} (v : Stored text ps K)
       (λ l e. absurd (clash (stands-here k K at to l e) s))
       (λ l d. ap part (range-next text K at to l) ∙ r .other _ _ (λ e. d (stored-kind v at (omega arith) ∙ e)))
 
-  here-at : (k at : ℕ) → stands k K at to ≡ true → range text K at to ≡ tokenOf k (charactersOf text K at) ∷ range text K (at + 1) to
+  here-at : (k at : ℕ) → stands k K at to ≡ true → range text K at to ≡ tokenOf k (writtenOf text K at) ∷ range text K (at + 1) to
   unfolding tokenIn
   here-at k at s =
       let p = standing k K at to s in
       range-next text K at to (p .0)
-      ∙ ap (λ j. tokenOf j (charactersOf text K at) ∷ range text K (suc at) to) (p .1)
-      ∙ ap (λ n. tokenOf k (charactersOf text K at) ∷ range text K n to) (sym (add-one at))
+      ∙ ap (λ j. tokenOf j (writtenOf text K at) ∷ range text K (suc at) to) (p .1)
+      ∙ ap (λ n. tokenOf k (writtenOf text K at) ∷ range text K n to) (sym (add-one at))
 
-  -- Behind a word or a number begins the next token, and where it is no quoted name, its characters.
+  -- Behind a word or a number begins the next token, and where it is no quoted name, its bytes.
   next-start : (at : ℕ) → at + 1 < length ps → kind K at < 3 → (kind K (at + 1) ≡ 3 → ⊥) → nextPlace text (start K at) (size K at) ≡ start K (at + 1)
   unfolding nextPlace
   next-start at l d q =
@@ -88,15 +88,15 @@ module _ {text : Bytes} {ps : List Placed} {K : List ℕ} (v : Stored text ps K)
   unfit-at n at a e = subst (λ p. Parses K from p (Unfit at)) (sym e) (ap Unfit a)
 
   module _ {part : List Token → D.Parsed} {at place : ℕ} (g : Gone part at place) where
-    module _ (k : ℕ) (d : k < 3) (w : Bytes) (e : w ≡ charactersFrom k text K at to place) where
+    module _ (k : ℕ) (d : k < 3) (w : Bytes) (e : w ≡ writtenFrom k text K at to place) where
       begins-here : stands k K at to ≡ true → place ≡ start K at
       begins-here s = let p = standing k K at to s in g .begins (p .0) (λ q. omega (arith, p .1))
 
-      characters-here : stands k K at to ≡ true → w ≡ charactersOf text K at
-      characters-here s = e ∙ from-here k K at to text place s ∙ ap (λ x. take (size K at) (drop x text)) (begins-here s)
+      written-here : stands k K at to ≡ true → w ≡ writtenOf text K at
+      written-here s = e ∙ from-here k K at to text place s ∙ ap (λ x. take (size K at) (drop x text)) (begins-here s)
 
       read-here : stands k K at to ≡ true → range text K at to ≡ tokenOf k w ∷ range text K (at + 1) to
-      read-here s = here-at k at s ∙ ap (λ c. tokenOf k c ∷ range text K (at + 1) to) (sym (characters-here s))
+      read-here s = here-at k at s ∙ ap (λ c. tokenOf k c ∷ range text K (at + 1) to) (sym (written-here s))
 
       -- The part refuses what is read.
       pub read-unfit : (n : ℕ) → at ≡ from + n → Refuses part k n → ((ts : List Token) → part (tokenOf k w ∷ ts) ≡ unfit n) → Answered (Unfit at)
@@ -116,7 +116,7 @@ module _ {text : Bytes} {ps : List Placed} {K : List ℕ} (v : Stored text ps K)
             go false s = absurd (n (e ∙ from-none k K at to text place s))
 
         pub size-here : length w ≡ size K at
-        size-here = let p = standing k K at to some-here in ap length (characters-here some-here) ∙ stored-characters v at (omega arith)
+        size-here = let p = standing k K at to some-here in ap length (written-here some-here) ∙ stored-written v at (omega arith)
 
         pub within-here : at < to
         within-here = standing k K at to some-here .0
@@ -138,7 +138,7 @@ module _ {text : Bytes} {ps : List Placed} {K : List ℕ} (v : Stored text ps K)
   -- The end of a declaration: the operator and its `;`.
   module _ (i : ℕ) (make : Bytes → Declaration) (at : ℕ) where
     operator-here :
-        stands 1 K at to ≡ true → operatorPart i make (range text K at to) ≡ closed (suc i) (make (charactersOf text K at)) (range text K (at + 1) to)
+        stands 1 K at to ≡ true → operatorPart i make (range text K at to) ≡ closed (suc i) (make (writtenOf text K at)) (range text K (at + 1) to)
     unfolding operatorPart symbolOf tokenOf
     operator-here s = ap (operatorPart i make) (here-at 1 at s)
 
@@ -150,7 +150,7 @@ module _ {text : Bytes} {ps : List Placed} {K : List ℕ} (v : Stored text ps K)
         {X : Type 0} → (operatorEnd K at to ≡ at → operatorPart i make (range text K at to) ≡ unfit i → X)
         → (operatorEnd K at to ≡ at + 1 → operatorPart i make (range text K at to) ≡ unfit (suc i) → X)
         → (operatorEnd K at to ≡ at + 2 → stands 1 K at to ≡ true
-        → operatorPart i make (range text K at to) ≡ parsed (make (charactersOf text K at)) (range text K (at + 1 + 1) to) → X)
+        → operatorPart i make (range text K at to) ≡ parsed (make (writtenOf text K at)) (range text K (at + 1 + 1) to) → X)
         → X
     operator-cases {X} none bare whole = go (stands 1 K at to) (stands 6 K (at + 1) to) refl refl
       where
@@ -181,4 +181,4 @@ module _ {text : Bytes} {ps : List Placed} {K : List ℕ} (v : Stored text ps K)
           subst
           (λ p. Parses K from p r)
           (sym (g .goes ∙ u))
-          (says (g .begins (p .0) (λ q. omega (arith, p .1))) (charactersOf text K at) (range text K (at + 1 + 1) to)))
+          (says (g .begins (p .0) (λ q. omega (arith, p .1))) (writtenOf text K at) (range text K (at + 1 + 1) to)))

@@ -10,7 +10,7 @@ use borrow.Author.Tests.{le-leb, lt-leb, eq-eqb, ne-eqb, eqb-true, eqb-false, le
 use Rattle.grammar.specs.Bytes.{Bytes}
 use Rattle.grammar.proofs.Logic.{clash}
 use Rattle.rows.specs.Fields.{kind, size}
-use Rattle.declaration_part.specs.Parts.{stands, charactersFrom, operatorEnd}
+use Rattle.declaration_part.specs.Parts.{stands, writtenFrom, operatorEnd}
 
 module _ (k : ℕ) (K : List ℕ) (at to : ℕ) where
   pub stands-end : to ≤ at → stands k K at to ≡ false
@@ -41,13 +41,13 @@ module _ (k : ℕ) (K : List ℕ) (at to : ℕ) where
       stands-cases (λ h. absurd (clash s (stands-end h))) (λ h e. (h, e)) (λ h n. absurd (clash s (stands-other h n)))
 
   module _ (text : Bytes) (place : ℕ) where
-    pub from-here : stands k K at to ≡ true → charactersFrom k text K at to place ≡ take (size K at) (drop place text)
-    unfolding charactersFrom
-    from-here s = rw (s, charactersFrom)
+    pub from-here : stands k K at to ≡ true → writtenFrom k text K at to place ≡ take (size K at) (drop place text)
+    unfolding writtenFrom
+    from-here s = rw (s, writtenFrom)
 
-    pub from-none : stands k K at to ≡ false → charactersFrom k text K at to place ≡ []
-    unfolding charactersFrom
-    from-none s = rw (s, charactersFrom)
+    pub from-none : stands k K at to ≡ false → writtenFrom k text K at to place ≡ []
+    unfolding writtenFrom
+    from-none s = rw (s, writtenFrom)
 
 -- The operator and its `;`.
 module _ (K : List ℕ) (at to : ℕ) where

@@ -11,9 +11,9 @@ use Rattle.rows.specs.Fields.{kind, size}
 unfoldable pub stands : ℕ → List ℕ → ℕ → ℕ → Bool
 stands k K at to = elim (leb to at) [ true ↦ false | false ↦ eqb (kind K at) k ]
 
--- Its characters, which begin at `place`; none where no such token stands.
-unfoldable pub charactersFrom : ℕ → Bytes → List ℕ → ℕ → ℕ → ℕ → Bytes
-charactersFrom k text K at to place = elim (stands k K at to) [ true ↦ take (size K at) (drop place text) | false ↦ [] ]
+-- Its bytes, which begin at `place`; none where no such token stands.
+unfoldable pub writtenFrom : ℕ → Bytes → List ℕ → ℕ → ℕ → ℕ → Bytes
+writtenFrom k text K at to place = elim (stands k K at to) [ true ↦ take (size K at) (drop place text) | false ↦ [] ]
 
 -- The operator at number `at` and the `;` behind it: the number of the first that does not stand there, else the one behind both.
 unfoldable pub operatorEnd : List ℕ → ℕ → ℕ → ℕ

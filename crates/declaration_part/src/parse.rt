@@ -9,7 +9,7 @@ ghost use Rattle.grammar.specs.Declaration.{declaration};
 ghost use Rattle.rows.specs.Fields.{Holds};
 ghost use Rattle.rows.specs.Tokens.{range};
 ghost use Rattle.declaration_part.specs.Parsing.{precedenceCode, fixityNumber, associativityNumber, Parses, Parsable};
-ghost use Rattle.declaration_part.specs.Parts.{charactersFrom, operatorEnd};
+ghost use Rattle.declaration_part.specs.Parts.{writtenFrom, operatorEnd};
 
 // A role for an operator, or a `plain` declaration, with the operator's offset; or the first token that does not fit.
 pub enum Parsed {
@@ -107,7 +107,7 @@ fn unfit_end(tokens: &[u16], at: usize, to: usize) -> usize
 // The word at token `at`, which begins at `place`; none where no word stands.
 fn word_of<'a>(text: &'a [u8], tokens: &[u16], at: usize, to: usize, place: usize) -> &'a [u8]
     requires { ⌜ Holds 4 (now tokens) to ⌝ }
-    ensures { λ r. ⌜ now r ≡ charactersFrom 1 (now (text .entry)) (now (tokens .entry)) at to place ⌝ }
+    ensures { λ r. ⌜ now r ≡ writtenFrom 1 (now (text .entry)) (now (tokens .entry)) at to place ⌝ }
 {
     if to <= at {
         return walk::token_at(text, 0, 0);
@@ -121,7 +121,7 @@ fn word_of<'a>(text: &'a [u8], tokens: &[u16], at: usize, to: usize, place: usiz
 // The precedence at token `at`, which begins at `place`; 0 where none stands.
 fn precedence_of(text: &[u8], tokens: &[u16], at: usize, to: usize, place: usize) -> u16
     requires { ⌜ Holds 4 (now tokens) to ⌝ }
-    ensures { λ r. ⌜ r ≡ precedenceCode (charactersFrom 2 (now (text .entry)) (now (tokens .entry)) at to place) ⌝ }
+    ensures { λ r. ⌜ r ≡ precedenceCode (writtenFrom 2 (now (text .entry)) (now (tokens .entry)) at to place) ⌝ }
 {
     if to <= at {
         return 0;

@@ -53,17 +53,17 @@ unfolding Answer.tokensOf Answer.startsOf Answer.offsetOf Answer.spanOffset Answ
     Declaration.hasRoom Declaration.enter
     Declaration.declarationsOf Declaration.declarations Listing.decimalIn Listing.decimal Listing.kindNames Listing.field
     Listing.nodeLines Listing.refusalLine Listing.canonicalLines Listing.readingLines Listing.listingOf Listing.listing
-    Nesting.outermost Nesting.within Nesting.move Nesting.closeInnermost Nesting.nesting Nodes.leafKind Nodes.charactersOffset
+    Nesting.outermost Nesting.within Nesting.move Nesting.closeInnermost Nesting.nesting Nodes.leafKind Nodes.writtenOffset
     Nodes.count Nodes.nodeWords Nodes.operatorWords Nodes.words Operator.sameFixity Operator.sameAssociativity Operator.allowed
     Operator.role Operator.isSome Operator.hasRole Operator.inForce Operator.replaced Operator.declareRole Operator.removeRoles
     Operator.onePrecedenceTest Operator.only Operator.absentRole Operator.besideInfix Operator.lawfulAssociativities
     Operator.lawful Operator.isApart Operator.everyOperator Operator.permitted Operator.listed Outcome.andThen Outcome.placed Scan.run Scan.keywordOrSymbol Scan.atMost
-    Scan.quotedName Scan.frontOf Scan.front Scan.before Scan.scan Span.itemTokens Span.effect Span.ownItem Span.isIn Span.beforeIn
+    Scan.charactersBehind Scan.charactersAt Scan.quotedWith Scan.quotedName Scan.frontOf Scan.front Scan.before Scan.scan Span.itemTokens Span.effect Span.ownItem Span.isIn Span.beforeIn
     Span.afterIn Span.item Span.itemsFrom Span.items SpanTree.yield SpanTree.present SpanTree.fixityBy SpanTree.fixity
     SpanTree.roleOfFixity SpanTree.roleOver SpanTree.root SpanTree.rootPrecedence SpanTree.isLeft SpanTree.isRight
     SpanTree.rightRoot SpanTree.admitsEqual SpanTree.admits SpanTree.admitsBoth SpanTree.isOperandAtom SpanTree.isOperand
     Spelling.continues Token.class Token.isBlankByte Token.beginsWord Token.inWord Token.inSign Token.inNumber Token.inQuotes
-    Token.characters Token.spelling Token.structureNumber Token.isStructure Token.isKeyword Token.isWord Token.isSign
+    Token.isQuote Token.doubled Token.undoubledBehind Token.undoubled Token.asWritten Token.spelling Token.structureNumber Token.isStructure Token.isKeyword Token.isWord Token.isSign
     Token.isNumber Token.isSymbol Tree.flat Tree.spanTree limits Limits.repeated Limits.declared Limits.longNames
 computed = (refl, refl, refl, refl)
 

@@ -38,7 +38,7 @@ cases =
     ∷ record { text = bytes "let postfix left 000001200 zz ; in a zz b end"; listing = bytes "refused 11 at 32\n" }
     ∷ record { text = bytes "let plain s ; infix non 400 s ; postfix non 400 s ; plain plain ; infix non 250\n plain ; postfix non 250 plain ; in ( not 'plain' ) plain end"; listing = bytes "read 5\n0 name 0 0 123 5 0\n1 prefix 0 0 118 3 600\n2 bracket 1 0 0 0 0\n3 postfix 2 0 132 5 250\n4 block 3 0 0 115 0\ntidy 140\nlet plain s ; infix non 400 s ; postfix non 400 s ; plain plain ; infix non 250 plain ; postfix non 250 plain ; in ( not 'plain' ) plain end\n" }
     ∷ record { text = bytes "let postfix left 500 < ; in a end"; listing = bytes "refused 10 at 25\n" }
-    ∷ record { text = bytes "not op * 'a'''"; listing = bytes "refused 3 at 12\n" }
+    ∷ record { text = bytes "not op * 'a'''"; listing = bytes "read 4\n0 name 0 0 4 2 0\n1 name 0 0 10 3 0\n2 infix 0 1 7 1 300\n3 prefix 2 0 0 3 600\ntidy 14\nnot op * 'a'''\n" }
     ∷ record { text = bytes "0000042=(infix and'_x'))"; listing = bytes "refused 6 at 23\n" }
     ∷ record { text = (108 ∷ 101 ∷ 116 ∷ 32 ∷ 57 ∷ 32 ∷ 105 ∷ 110 ∷ 102 ∷ 105 ∷ 120 ∷ 32 ∷ 108 ∷ 101 ∷ 102 ∷ 116 ∷ 32 ∷ 57 ∷ 57 ∷ 48 ∷ 45 ∷ 45 ∷ 59 ∷ 10 ∷ 112 ∷ 111 ∷ 115 ∷ 116 ∷ 102 ∷ 105 ∷ 120 ∷ 32 ∷ 108 ∷ 101 ∷ 102 ∷ 116 ∷ 10 ∷ 52 ∷ 48 ∷ 48 ∷ 32 ∷ 32 ∷ 109 ∷ 59 ∷ 105 ∷ 110 ∷ 32 ∷ 110 ∷ 111 ∷ 116 ∷ 32 ∷ 108 ∷ 101 ∷ 116 ∷ 13 ∷ 10 ∷ 105 ∷ 110 ∷ 102 ∷ 105 ∷ 120 ∷ 13 ∷ 10 ∷ 114 ∷ 105 ∷ 103 ∷ 104 ∷ 116 ∷ 10 ∷ 55 ∷ 48 ∷ 48 ∷ 110 ∷ 111 ∷ 110 ∷ 10 ∷ 59 ∷ 32 ∷ 112 ∷ 114 ∷ 101 ∷ 102 ∷ 105 ∷ 120 ∷ 13 ∷ 10 ∷ 114 ∷ 105 ∷ 103 ∷ 104 ∷ 116 ∷ 13 ∷ 10 ∷ 53 ∷ 48 ∷ 48 ∷ 32 ∷ 60 ∷ 10 ∷ 59 ∷ 32 ∷ 10 ∷ 32 ∷ 112 ∷ 114 ∷ 101 ∷ 102 ∷ 105 ∷ 120 ∷ 32 ∷ 32 ∷ 110 ∷ 111 ∷ 110 ∷ 32 ∷ 51 ∷ 48 ∷ 48 ∷ 32 ∷ 10 ∷ 32 ∷ 47 ∷ 32 ∷ 59 ∷ 112 ∷ 108 ∷ 97 ∷ 105 ∷ 110 ∷ 10 ∷ 60 ∷ 59 ∷ 32 ∷ 112 ∷ 111 ∷ 115 ∷ 116 ∷ 102 ∷ 105 ∷ 120 ∷ 10 ∷ 110 ∷ 111 ∷ 110 ∷ 13 ∷ 10 ∷ 53 ∷ 48 ∷ 48 ∷ 32 ∷ 10 ∷ 32 ∷ 42 ∷ 42 ∷ 9 ∷ 59 ∷ 105 ∷ 110 ∷ 32 ∷ 108 ∷ 101 ∷ 116 ∷ 9 ∷ 105 ∷ 110 ∷ 102 ∷ 105 ∷ 120 ∷ 13 ∷ 10 ∷ 108 ∷ 101 ∷ 102 ∷ 116 ∷ 32 ∷ 32 ∷ 48 ∷ 55 ∷ 48 ∷ 48 ∷ 115 ∷ 13 ∷ 10 ∷ 59 ∷ 32 ∷ 105 ∷ 110 ∷ 32 ∷ 10 ∷ 32 ∷ 43 ∷ 43 ∷ 32 ∷ 10 ∷ 32 ∷ 42 ∷ 57 ∷ 48 ∷ 55 ∷ 57 ∷ 57 ∷ 50 ∷ 52 ∷ 49 ∷ 56 ∷ 101 ∷ 110 ∷ 100 ∷ 9 ∷ 101 ∷ 110 ∷ 100 ∷ 32 ∷ 45 ∷ 9 ∷ 40 ∷ 9 ∷ 108 ∷ 101 ∷ 116 ∷ 10 ∷ 105 ∷ 110 ∷ 32 ∷ 32 ∷ 108 ∷ 101 ∷ 116 ∷ 32 ∷ 112 ∷ 108 ∷ 97 ∷ 105 ∷ 110 ∷ 42 ∷ 13 ∷ 10 ∷ 59 ∷ 105 ∷ 110 ∷ 32 ∷ 105 ∷ 9 ∷ 101 ∷ 110 ∷ 100 ∷ 32 ∷ 101 ∷ 110 ∷ 100 ∷ 32 ∷ 109 ∷ 41 ∷ 32 ∷ 101 ∷ 110 ∷ 100 ∷ []); listing = bytes "refused 8 at 4\n" }
     ∷ record { text = (50 ∷ 189 ∷ 134 ∷ 224 ∷ 37 ∷ 50 ∷ 111 ∷ 105 ∷ 182 ∷ 180 ∷ 15 ∷ 221 ∷ 77 ∷ 26 ∷ 59 ∷ 121 ∷ 136 ∷ 243 ∷ 4 ∷ 208 ∷ 174 ∷ 189 ∷ 163 ∷ 217 ∷ 83 ∷ 23 ∷ 184 ∷ 64 ∷ 168 ∷ []); listing = bytes "refused 2 at 1\n" }
@@ -130,7 +130,7 @@ cases =
     ∷ record { text = bytes "let postfix non 50 xor ; plain r ; prefix right 500 = ; postfix left 400 :- ; prefix non 300 ^ ; in let infix left 0350 plain ; infix non 400 - ; in let in let postfix non 569 -- ; plain ^ ; in - ( z_ ) end end end end"; listing = bytes "read 7\n0 name 0 0 198 2 0\n1 bracket 0 0 0 0 0\n2 prefix 1 0 194 1 400\n3 block 2 0 156 37 0\n4 block 3 0 149 6 0\n5 block 4 0 100 48 0\n6 block 5 0 0 99 0\ntidy 213\nlet postfix non 50 xor ; plain r ; prefix right 500 = ; postfix left 400 :- ; prefix non 300 ^ ; in let infix left 350 plain ; infix non 400 - ; in let in let postfix non 569 -- ; plain ^ ; in - z_ end end end end\n" }
     ∷ record { text = bytes "let plain s ; prefix right 400 s ; postfix non 400 s ; plain is ; infix non 300 is ; prefix non 300 is ; postfix non 300 is ; in - - s 1 is end"; listing = bytes "refused 11 at 126\n" }
     ∷ record { text = bytes "let prefix non 0450xor;in let infix left 450xor;in(not let prefix right 400plain;in l right 300foo;infix left 825?;in let prefix right 500infix;in a end end end)*let in-let infix non 1200is;prefix right 300infix;in op end end end end"; listing = bytes "refused 6 at 98\n" }
-    ∷ record { text = bytes "let postfix non 000000400 r ; in ( ( not 42 = let prefix non 300 * ; prefix non 300 * ; in 000000042 end ) * let in prefix end r ) + ( not ( 'let' or let prefix right 450 / ; in / 'a''' + 0 end ) ) end"; listing = bytes "refused 3 at 183\n" }
+    ∷ record { text = bytes "let postfix non 000000400 r ; in ( ( not 42 = let prefix non 300 * ; prefix non 300 * ; in 000000042 end ) * let in prefix end r ) + ( not ( 'let' or let prefix right 450 / ; in / 'a''' + 0 end ) ) end"; listing = bytes "read 23\n0 number 0 0 41 2 0\n1 number 0 0 91 9 0\n2 block 1 0 46 44 0\n3 infix 0 2 44 1 500\n4 prefix 3 0 37 3 600\n5 bracket 4 0 0 0 0\n6 name 0 0 116 6 0\n7 block 6 0 109 6 0\n8 infix 5 7 107 1 300\n9 postfix 8 0 127 1 400\n10 bracket 9 0 0 0 0\n11 name 0 0 142 3 0\n12 name 0 0 181 3 0\n13 number 0 0 188 1 0\n14 infix 12 13 186 1 400\n15 prefix 14 0 178 1 450\n16 block 15 0 150 27 0\n17 infix 11 16 147 2 800\n18 bracket 17 0 0 0 0\n19 prefix 18 0 135 3 600\n20 bracket 19 0 0 0 0\n21 infix 10 20 131 1 400\n22 block 21 0 0 32 0\ntidy 184\nlet postfix non 400 r ; in ( not 42 = let prefix non 300 * ; prefix non 300 * ; in 42 end ) * let in prefix end r + ( not ( 'let' or let prefix right 450 / ; in / 'a''' + 0 end ) ) end\n" }
     ∷ record { text = bytes "cn = '007'"; listing = bytes "read 3\n0 name 0 0 0 2 0\n1 name 0 0 6 3 0\n2 infix 0 1 3 1 500\ntidy 10\ncn = '007'\n" }
     ∷ record { text = bytes "let plain s;prefix non 300s;postfix left 300s;in Let*plain s*i<(s x1< #)-prefix*42end"; listing = bytes "read 17\n0 name 0 0 49 3 0\n1 name 0 0 53 5 0\n2 infix 0 1 52 1 300\n3 postfix 2 0 59 1 300\n4 name 0 0 61 1 0\n5 infix 3 4 60 1 300\n6 name 0 0 66 2 0\n7 prefix 6 0 64 1 300\n8 name 0 0 70 1 0\n9 infix 7 8 68 1 500\n10 bracket 9 0 0 0 0\n11 name 0 0 73 6 0\n12 number 0 0 80 2 0\n13 infix 11 12 79 1 300\n14 infix 10 13 72 1 400\n15 infix 5 14 62 1 500\n16 block 15 0 0 48 0\ntidy 107\nlet plain s ; prefix non 300 s ; postfix left 300 s ; in Let * plain s * i < ( s x1 < # ) - prefix * 42 end\n" }
     ∷ record { text = bytes "let plain -- ; plain 'x' ; in a end"; listing = bytes "refused 8 at 21\n" }
@@ -154,4 +154,10 @@ cases =
     ∷ record { text = bytes "()"; listing = bytes "refused 11 at 0\n" }
     ∷ record { text = bytes " ( ) "; listing = bytes "refused 11 at 1\n" }
     ∷ record { text = bytes "let in end"; listing = bytes "refused 11 at 4\n" }
+    ∷ record { text = bytes "''''"; listing = bytes "read 1\n0 name 0 0 1 2 0\ntidy 4\n''''\n" }
+    ∷ record { text = bytes "'a''"; listing = bytes "refused 3 at 0\n" }
+    ∷ record { text = bytes "'a' = 'a''a'"; listing = bytes "read 3\n0 name 0 0 1 1 0\n1 name 0 0 7 4 0\n2 infix 0 1 4 1 500\ntidy 10\na = 'a''a'\n" }
+    ∷ record { text = bytes "name = 'D''Souza' and 'it''s' = 'it''''s'"; listing = bytes "read 7\n0 name 0 0 0 4 0\n1 name 0 0 8 8 0\n2 infix 0 1 5 1 500\n3 name 0 0 23 5 0\n4 name 0 0 33 7 0\n5 infix 3 4 30 1 500\n6 infix 2 5 18 3 700\ntidy 41\nname = 'D''Souza' and 'it''s' = 'it''''s'\n" }
+    ∷ record { text = bytes "( ( 'a''b' ) )"; listing = bytes "read 3\n0 name 0 0 5 4 0\n1 bracket 0 0 0 0 0\n2 bracket 1 0 0 0 0\ntidy 6\n'a''b'\n" }
+    ∷ record { text = bytes "''''O''Neill'\t"; listing = bytes "refused 3 at 5\n" }
     ∷ []

@@ -70,7 +70,7 @@ limits =
     -- Precedence 1200 passes.
     ∷ success (bytes "let infix left 1200 m ; in a m b end") 4 36
     ∷ refusal (bytes "let infix left 1201 m ; in a m b end") 8 15
-    -- A name of 63 bytes passes, bare or quoted; a number of 9 digits.
+    -- A name of 63 characters passes, bare or quoted; a number of 9 digits.
     ∷ success (repeated 63 (bytes "a")) 1 63
     ∷ refusal (repeated 64 (bytes "a")) 4 0
     ∷ success (bytes "'" ++ repeated 63 (bytes " ") ++ bytes "'") 1 65
@@ -78,6 +78,13 @@ limits =
     ∷ success (bytes "123456789") 1 9
     ∷ refusal (bytes "1234567890") 4 0
     ∷ refusal (bytes "''") 3 0
+    -- A pair of quotes is one character of 63, and never closes a name.
+    ∷ success (bytes "'" ++ repeated 63 (bytes "''") ++ bytes "'") 1 128
+    ∷ refusal (bytes "'" ++ repeated 64 (bytes "''") ++ bytes "'") 3 0
+    ∷ success (bytes "'" ++ repeated 62 (bytes "a") ++ bytes "'''") 1 66
+    ∷ refusal (bytes "'" ++ repeated 63 (bytes "a") ++ bytes "'''") 3 0
+    ∷ refusal (bytes "'" ++ repeated 63 (bytes "a") ++ bytes "''y'") 3 0
+    ∷ refusal (bytes "'a''") 3 0
     -- Every sign begins a token, and byte 11 none.
     ∷ success (bytes "+-*/<>=!&|^~:?@#$%") 1 18
     ∷ success (bytes "& = ~ and @ = $ and % = ^") 11 25

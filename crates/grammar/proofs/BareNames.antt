@@ -15,6 +15,7 @@ use Rattle.grammar.specs.Token.{
   beginsWord,
   inWord,
   inSign,
+  inNumber,
   Token,
   atom,
   structure,
@@ -25,6 +26,7 @@ use Rattle.grammar.specs.Token.{
   isKeyword,
   isWord,
   isSign,
+  isNumber,
   isSymbol,
   isToken,
 }
@@ -32,14 +34,10 @@ use Rattle.grammar.specs.Outcome.{passed}
 use Rattle.grammar.specs.Scan.{Placed, scan}
 use Rattle.grammar.specs.Answer.{offsetOf}
 use Rattle.grammar.specs.Decoding.{byteBefore}
-use Rattle.grammar.proofs.Logic.{and-left, and-right, or-cases, clash}
+use Rattle.grammar.proofs.Logic.{and-left, and-right, or-cases, clash, every-cons}
 use Rattle.grammar.proofs.Lists.{all-append}
-use Rattle.grammar.proofs.Runs.{every-cons}
+use Rattle.grammar.proofs.Doubling.{Unquoted}
 use Rattle.grammar.proofs.TextParts.{Here, offsets-behind}
-
--- A byte that is no quote.
-abbrev pub Unquoted : ℕ → Type 0
-Unquoted b = b ≡ 39 → ⊥
 
 -- Bytes, one at least, without a quote.
 abbrev Bare : Bytes → Type 0
@@ -71,16 +69,31 @@ unfolding isSign inSign class member
 sign-bare [] e = true≢false (sym e)
 sign-bare (b ∷ w) e = (test-unquoted inSign refl b (and-left (inSign b) _ e), every-unquoted inSign refl w (and-right (inSign b) _ e))
 
-symbol-bare : (w : Bytes) → isToken (atom (symbol w)) ≡ true → Bare w
-unfolding isToken isSymbol
-symbol-bare w e = go (or-cases (isWord w) (isSign w) (and-left bare (not (isKeyword w)) (and-left (bare && not (isKeyword w)) _ e)))
+run-bare : (w : Bytes) → isWord w || isSign w ≡ true → Bare w
+run-bare w e = go (or-cases (isWord w) (isSign w) e)
   where
-    bare : Bool
-    bare = isWord w || isSign w
-
     go : (isWord w ≡ true) ⊎ (isSign w ≡ true) → Bare w
     go (inl i) = word-bare w i
     go (inr i) = sign-bare w i
+
+symbol-bare : (w : Bytes) → isSymbol w ≡ true → Bare w
+unfolding isSymbol
+symbol-bare w e = let bare = isWord w || isSign w in run-bare w (and-left bare (not (isKeyword w)) (and-left (bare && not (isKeyword w)) _ e))
+
+bare-unquoted : (w : Bytes) → Bare w → All Unquoted w
+bare-unquoted [] h = tt
+bare-unquoted (b ∷ w) h = h
+
+pub run-unquoted : (w : Bytes) → isWord w || isSign w ≡ true → All Unquoted w
+run-unquoted w e = bare-unquoted w (run-bare w e)
+
+pub symbol-unquoted : (w : Bytes) → isSymbol w ≡ true → All Unquoted w
+symbol-unquoted w e = bare-unquoted w (symbol-bare w e)
+
+pub number-unquoted : (d : Bytes) → isNumber d ≡ true → All Unquoted d
+unfolding isNumber inNumber class member
+number-unquoted [] e = tt
+number-unquoted (b ∷ d) e = (test-unquoted inNumber refl b (and-left (inNumber b) _ e), every-unquoted inNumber refl d (and-right (inNumber b) _ e))
 
 all-at : (P : ℕ → Type 0) (s : Bytes) (j : ℕ) → j < length s → All P s → P (getD s j 0)
 all-at P [] j l h = absurd (omega arith)
@@ -124,7 +137,7 @@ module _ (text : Bytes) where
             ∙ ap (_∷_ b) (sym (append-assoc w (h .gap) (drop (o (suc i)) text)))
 
     pub behind-operator : (m : Bytes) → Here text o i (atom (symbol m)) → Unquoted (byteBefore text (o (suc i)))
-    unfolding spelling
+    unfolding spelling isToken
     behind-operator m h = behind-bare (atom (symbol m)) m refl (symbol-bare m (h .valid)) h
 
     pub behind-opening : Here text o i (structure opening) → Unquoted (byteBefore text (o (suc i)))

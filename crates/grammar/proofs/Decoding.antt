@@ -9,9 +9,8 @@ use Prim.Native.Nat.{ℕ, zero, suc, pred, _+_, _-_, _*_, _≤_, _<_}
 use native.Mathlib.Omega.{arith}
 use lib.ListN.{length, take, drop, length-append}
 use lib.Seq.{take-append-seam, take-at}
-use borrow.Author.Tests.{ne-eqb}
 use Rattle.grammar.specs.Bytes.{Bytes}
-use Rattle.grammar.specs.Token.{Atom, symbol, number, quoted, Token, atom, structure, keywordLet, keywordIn, characters, spelling}
+use Rattle.grammar.specs.Token.{Atom, symbol, number, quoted, isQuote, doubled, Token, atom, structure, keywordLet, keywordIn, asWritten, spelling}
 use Rattle.grammar.specs.Operator.{Fixity, Prefix, Infix, Postfix}
 use Rattle.grammar.specs.Scan.{Placed}
 use Rattle.grammar.specs.Declaration.{Declaration, startTable, allTokens, areDeclarations, declarations}
@@ -19,7 +18,7 @@ use Rattle.grammar.specs.Fault.{mostTokens}
 use Rattle.grammar.specs.SpanTree.{present}
 use Rattle.grammar.specs.Tree.{Tree, nothing, leaf, bracket, block, node, flat, spanTree}
 use Rattle.grammar.specs.Blocks.{underBracket, underBlock, underOperator}
-use Rattle.grammar.specs.Nodes.{nameKind, numberKind, leafKind, charactersOffset, count, wordsPerNode, words}
+use Rattle.grammar.specs.Nodes.{nameKind, numberKind, leafKind, writtenOffset, count, wordsPerNode, words}
 use Rattle.grammar.specs.Answer.{PastChecks, tokensOf, offsetOf}
 use Rattle.grammar.specs.Decoding.{
   decodeTable,
@@ -47,7 +46,8 @@ use Rattle.grammar.proofs.TextParts.{Here}
 use Rattle.grammar.proofs.Declarations.{declarations-of}
 use Rattle.grammar.proofs.Operands.{words-length}
 use Rattle.grammar.proofs.WordsOffsets.{block-size}
-use Rattle.grammar.proofs.BareNames.{Unquoted, quote-before}
+use Rattle.grammar.proofs.BareNames.{quote-before}
+use Rattle.grammar.proofs.Doubling.{Unquoted, unquoted, undoubled-doubled}
 use Rattle.grammar.proofs.Present.{counted, no-node, Operands, operands}
 use Rattle.grammar.proofs.ReadingTrees.{IsReading}
 use Rattle.grammar.proofs.Subtrees.{
@@ -90,22 +90,22 @@ declarations-spelled ds s e n h =
     ∙ ap declarations (between-ends (structure keywordLet) (structure keywordIn) (allTokens ds))
     ∙ declarations-of ds e)
 
--- A bare name and a quoted one, told by the byte before their characters.
-bare-name : (b : ℕ) (c : Bytes) → Unquoted b → nameBehind b c ≡ symbol c
+-- A bare name and a quoted one, told by the byte before their bytes.
+bare-name : (b : ℕ) (w : Bytes) → Unquoted b → nameBehind b w ≡ symbol w
 unfolding nameBehind
-bare-name b c h = rw (ne-eqb b 39 h, nameBehind)
+bare-name b w h = rw (unquoted b h, nameBehind)
 
-quoted-name : (b : ℕ) (c : Bytes) → b ≡ 39 → nameBehind b c ≡ quoted c
-unfolding nameBehind
-quoted-name b c h = ap (λ x. nameBehind x c) h
+quoted-name : (b : ℕ) (c : Bytes) → b ≡ 39 → nameBehind b (doubled c) ≡ quoted c
+unfolding nameBehind isQuote
+quoted-name b c h = ap (λ x. nameBehind x (doubled c)) h ∙ ap quoted (undoubled-doubled c)
 
 -- A text, its tokens and their offsets, and a node table.
 module _ (text : Bytes) (ts : List Token) (o : ℕ → ℕ) (ws : List ℕ) where
-  -- A name or number, from its characters and the byte before them.
+  -- A name or number, from its bytes as written and the byte before them.
   leaf-tree :
       (a : Atom) (i : ℕ) → Here text o i (atom a) → Unquoted (byteBefore text (o i)) → (x y : Option Tree)
-      → nodeTree (leafKind a) x y (byteBefore text (charactersOffset a (o i))) (characters a) ≡ some (leaf a)
-  unfolding nodeTree leafKind charactersOffset characters spelling
+      → nodeTree (leafKind a) x y (byteBefore text (writtenOffset a (o i))) (asWritten a) ≡ some (leaf a)
+  unfolding nodeTree leafKind writtenOffset asWritten spelling
   leaf-tree (symbol w) i h n x y = ap (λ a. some (leaf a)) (bare-name (byteBefore text (o i)) w n)
   leaf-tree (number d) i h n x y = refl
   leaf-tree (quoted c) i h n x y =

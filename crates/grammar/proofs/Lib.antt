@@ -1,6 +1,7 @@
 pub mod Logic
 pub mod Lists
 pub mod Positive
+pub mod Doubling
 pub mod Runs
 pub mod Taken
 pub mod Scanned
@@ -64,8 +65,10 @@ pub mod BlankRules
 pub mod FewestTokens
 pub mod Answers
 pub mod BareNames
+pub mod Names
 pub mod SpanPlaces
 pub mod Subtrees
 pub mod NodeCharacters
+pub mod NodeTokens
 pub mod Decoding
 pub mod NodePrecedences

@@ -1,4 +1,4 @@
--- Facts about tests: conjunctions, alternatives, the equality of byte strings, and the order of numbers.
+-- Facts about tests: conjunctions, alternatives, tests of every byte, the equality of byte strings, and the order of numbers.
 use mathlib.Core.Path.{_≡_, refl, sym, ap₂, _∙_}
 use mathlib.Core.Bool.{Bool, true, false, _&&_, _||_, true≢false}
 use mathlib.Core.Logic.{_⊎_, inl, inr}
@@ -7,7 +7,7 @@ use Prim.Native.Nat.{ℕ, _≤_, _<_}
 use native.Mathlib.Omega.{arith}
 use lib.Dec.{ltb, eqb}
 use borrow.Author.Tests.{ltb-true, ltb-false, eqb-true, eq-eqb}
-use Rattle.grammar.specs.Bytes.{Bytes, same}
+use Rattle.grammar.specs.Bytes.{Bytes, every, same}
 
 pub and-left : (a b : Bool) → a && b ≡ true → a ≡ true
 and-left true b e = refl
@@ -35,6 +35,14 @@ clash p q = true≢false (sym p ∙ q)
 -- A contradiction between constructors, which `cc` finds.
 pub impossible {ℓ} : {X : Type ℓ} → _≡_ {A = ℕ} 0 1 → X
 impossible e = absurd (omega arith)
+
+pub every-cons : (p : ℕ → Bool) (b : ℕ) (s : Bytes) → every p (b ∷ s) ≡ p b && every p s
+unfolding every
+every-cons p b s = go (p b) refl
+  where
+    go : (h : Bool) → p b ≡ h → every p (b ∷ s) ≡ p b && every p s
+    go true e = rw (e, every)
+    go false e = rw (e, every)
 
 pub same-eq : (x y : Bytes) → same x y ≡ true → x ≡ y
 unfolding same

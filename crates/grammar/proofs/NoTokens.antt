@@ -1,20 +1,20 @@
 -- Rows 2 to 4: the answer about the front of a text is the number of a row exactly where that row holds of the bytes there. The first
 -- byte begins a word, sign or number, a quoted name, a solo or no token; each of the four is met with in both directions.
 use mathlib.Core.Path.{_≡_, refl, sym, ap, subst, _∙_}
-use mathlib.Core.Bool.{Bool, true, false, _&&_, _||_}
+use mathlib.Core.Bool.{Bool, true, false, _||_}
 use mathlib.Core.Logic.{_⊎_, inl, inr, _↔_}
 use mathlib.Core.List.{[], _∷_, _++_, append-nil}
 use Prim.Native.Nat.{ℕ, _≤_, _<_}
 use native.Mathlib.Omega.{arith}
 use lib.Dec.{leb, eqb}
-use lib.ListN.{length, take, drop, getD, take-append-drop}
+use lib.ListN.{length, take, drop, take-append-drop}
 use borrow.Author.Tests.{eqb-true, eq-eqb, leb-false, lt-leb}
 use Rattle.grammar.specs.Bytes.{Bytes, every, member}
-use Rattle.grammar.specs.Token.{class, letter, digit, sign, quote, opens, closes, separates, inQuotes, longestName}
+use Rattle.grammar.specs.Token.{class, letter, digit, sign, quote, opens, closes, separates, inQuotes, isQuote, doubled}
 use Rattle.grammar.specs.Token.{quoted, opening, closing, semicolon, Structure, Token, atom, structure}
 use Rattle.grammar.specs.Token.{spelling, isWord, isSign, isToken}
 use Rattle.grammar.specs.Spelling.{continues, Stops}
-use Rattle.grammar.specs.Scan.{run, Front, wrong, taken, atMost, quotedName, frontOf, front}
+use Rattle.grammar.specs.Scan.{run, Front, wrong, taken, atMost, charactersAt, isClosed, quotedName, quotedWith, frontOf, front}
 use Rattle.grammar.specs.Fault.{NoToken, beginsNone, noQuotedName, longName, longNumber}
 use Rattle.grammar.proofs.Logic.{and-intro, or-cases, impossible}
 use Rattle.grammar.proofs.Runs.{Ran, ran, Kind, words, signs, numbers, isRun, word-run, sign-run, number-run, sign-not-word}
@@ -116,28 +116,28 @@ abbrev QuotedOr3 : Front → Type 0
 QuotedOr3 f = ((c : Bytes) × (m : ℕ) × (f ≡ taken (atom (quoted c)) m)) ⊎ (f ≡ wrong 3)
 
 front-quote : (s : Bytes) → QuotedOr3 (front (39 ∷ s))
-unfolding front frontOf class member quotedName
-front-quote s =
-    let n = run inQuotes s in
-    branch QuotedOr3 (leb 1 n && leb n longestName && eqb (getD s n 0) 39) _ _ (λ e. inl (_, _, refl)) (inr refl)
+unfolding front frontOf class member quotedName quotedWith
+front-quote s = branch QuotedOr3 (isClosed (charactersAt s) s) _ _ (λ e. inl (_, _, refl)) (inr refl)
 
-front-three :
-    (s : Bytes) → ((c r : Bytes) → isToken (atom (quoted c)) ≡ true → 39 ∷ s ≡ spelling (atom (quoted c)) ++ r → ⊥)
-    → front (39 ∷ s) ≡ wrong 3
+-- No quoted name stands at the front of a text.
+abbrev NoQuotedName : Bytes → Type 0
+NoQuotedName s =
+    (c r : Bytes) → isToken (atom (quoted c)) ≡ true → s ≡ spelling (atom (quoted c)) ++ r → Stops (continues (atom (quoted c))) r → ⊥
+
+front-three : (s : Bytes) → NoQuotedName (39 ∷ s) → front (39 ∷ s) ≡ wrong 3
 front-three s h = go (front-quote s)
   where
     go : QuotedOr3 (front (39 ∷ s)) → front (39 ∷ s) ≡ wrong 3
     go (inl (c, m, e)) =
         let t : Begins (39 ∷ s) (atom (quoted c)) m = subst (Told (39 ∷ s)) e (front-told (39 ∷ s)) in
-        absurd (h c (t .rest) (t .valid) (t .written))
+        absurd (h c (t .rest) (t .valid) (t .written) (t .stops))
     go (inr e) = e
 
 quoted-row : (s : Bytes) (n : ℕ) → front (39 ∷ s) ≡ wrong n → NoToken (39 ∷ s) n
-unfolding continues
 quoted-row s n e = go (front-quote s)
   where
-    unquoted : (c r : Bytes) → isToken (atom (quoted c)) ≡ true → 39 ∷ s ≡ spelling (atom (quoted c)) ++ r → ⊥
-    unquoted c r v w = not-both (front-spelled (atom (quoted c)) v r (stops-always r)) (ap front (sym w) ∙ e)
+    unquoted : NoQuotedName (39 ∷ s)
+    unquoted c r v w h = not-both (front-spelled (atom (quoted c)) v r h) (ap front (sym w) ∙ e)
 
     go : QuotedOr3 (front (39 ∷ s)) → NoToken (39 ∷ s) n
     go (inl (c, m, f)) = absurd (not-both f e)
@@ -170,7 +170,7 @@ refused-row (b ∷ s) n e = go (first-byte b)
 
 -- .. and from the row to the answer.
 front-two : (b : ℕ) (s : Bytes) → ((t : Token) (r : Bytes) → isToken t ≡ true → spelling t ≡ b ∷ r → ⊥) → front (b ∷ s) ≡ wrong 2
-unfolding isRun every isToken spelling inQuotes
+unfolding isRun every isToken spelling doubled isQuote inQuotes
 front-two b s h = go (first-byte b)
   where
     go : FirstByte b → front (b ∷ s) ≡ wrong 2

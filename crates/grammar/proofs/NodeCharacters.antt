@@ -9,18 +9,18 @@ use native.Mathlib.Nat.{sub-zero}
 use lib.ListN.{length, take, drop, getD, length-map, List·getD-map, List·getD-eq-default}
 use lib.Seq.{take-append-seam}
 use Rattle.grammar.specs.Bytes.{Bytes}
-use Rattle.grammar.specs.Token.{Token, structure, symbol, keywordLet, keywordIn, spelling, Atom, characters}
+use Rattle.grammar.specs.Token.{Token, structure, symbol, keywordLet, keywordIn, spelling, Atom, asWritten}
 use Rattle.grammar.specs.Operator.{Fixity, Prefix, Infix, Postfix}
 use Rattle.grammar.specs.Scan.{Placed}
 use Rattle.grammar.specs.Declaration.{Declaration, startTable, allTokens}
 use Rattle.grammar.specs.Tree.{Tree, nothing, leaf, bracket, block, node, flat}
-use Rattle.grammar.specs.Nodes.{charactersOffset, count, words}
+use Rattle.grammar.specs.Nodes.{writtenOffset, count, words}
 use Rattle.grammar.specs.Answer.{PastChecks, tokensOf, offsetOf}
 use Rattle.grammar.specs.Decoding.{partOf}
-use Rattle.grammar.specs.Claim.{nodeNames, nodeBlocks, FromLetToIn}
+use Rattle.grammar.specs.Claim.{nodeAtoms, nodeBlocks, FromLetToIn}
 use Rattle.grammar.proofs.ReadingTrees.{IsReading}
 use Rattle.grammar.proofs.Logic.{impossible, below}
-use Rattle.grammar.proofs.Offsets.{characters-stand}
+use Rattle.grammar.proofs.Offsets.{written-stands}
 use Rattle.grammar.proofs.TextParts.{Part, Stand, part}
 use Rattle.grammar.proofs.Subtrees.{
   subtrees,
@@ -38,12 +38,12 @@ use Rattle.grammar.proofs.Subtrees.{
 }
 
 -- The name, number or operator at the root of a tree.
-unfoldable nameOf : Tree → Option Bytes
-nameOf nothing = none
-nameOf (leaf t) = some (characters t)
-nameOf (bracket t) = none
-nameOf (block ds t) = none
-nameOf (node l m r) = some m
+unfoldable atomOf : Tree → Option Atom
+atomOf nothing = none
+atomOf (leaf a) = some a
+atomOf (bracket t) = none
+atomOf (block ds t) = none
+atomOf (node l m r) = some (symbol m)
 
 -- The declarations of a block.
 unfoldable blockOf : Tree → Option (List Declaration)
@@ -72,9 +72,9 @@ module _
       map-append own (subtrees l) (subtrees r ++ node l m r ∷ [])
       ∙ ap₂ _++_ (listed l) (behind (subtrees r) (node l m r) (f r) (listed r)) ∙ sym (at-node l m r)
 
-names-of : (t : Tree) → map nameOf (subtrees t) ≡ nodeNames t
-unfolding nameOf nodeNames
-names-of = listed nodeNames nameOf refl (λ t. refl) (λ t. refl) (λ ds t. refl) (λ l m r. refl)
+atoms-of : (t : Tree) → map atomOf (subtrees t) ≡ nodeAtoms t
+unfolding atomOf nodeAtoms
+atoms-of = listed nodeAtoms atomOf refl (λ t. refl) (λ t. refl) (λ ds t. refl) (λ l m r. refl)
 
 blocks-of : (t : Tree) → map blockOf (subtrees t) ≡ nodeBlocks t
 unfolding blockOf nodeBlocks
@@ -85,8 +85,8 @@ node-of : {A : Type 0} (xs : List (Option A)) (t : Tree) → length xs ≡ count
 node-of xs t e k x f =
     below k (count t) (λ l. l) (λ l. let none-left : getD xs k none ≡ none = List·getD-eq-default xs none (omega arith) in impossible cc)
 
-pub named-node : (t : Tree) (k : ℕ) (c : Bytes) → getD (nodeNames t) k none ≡ some c → k < count t
-named-node t = node-of (nodeNames t) t (sym (ap length (names-of t)) ∙ length-map (subtrees t) nameOf ∙ subtrees-length t)
+pub atom-node : (t : Tree) (k : ℕ) (a : Atom) → getD (nodeAtoms t) k none ≡ some a → k < count t
+atom-node t = node-of (nodeAtoms t) t (sym (ap length (atoms-of t)) ∙ length-map (subtrees t) atomOf ∙ subtrees-length t)
 
 pub block-of : (t : Tree) (k : ℕ) (ds : List Declaration) → getD (nodeBlocks t) k none ≡ some ds → k < count t
 block-of t = node-of (nodeBlocks t) t (sym (ap length (blocks-of t)) ∙ length-map (subtrees t) blockOf ∙ subtrees-length t)
@@ -94,18 +94,18 @@ block-of t = node-of (nodeBlocks t) t (sym (ap length (blocks-of t)) ∙ length-
 -- The part of the text that belongs to the root of a tree.
 abbrev pub Gives : Tree → Bytes → Type 0
 Gives nothing s = Unit {0}
-Gives (leaf t) s = s ≡ characters t
+Gives (leaf a) s = s ≡ asWritten a
 Gives (bracket t) s = Unit {0}
 Gives (block ds t) s = FromLetToIn ds s
 Gives (node l m r) s = s ≡ m
 
-gives-name : (t : Tree) (s c : Bytes) → Gives t s → nameOf t ≡ some c → s ≡ c
-unfolding nameOf
-gives-name nothing s c g e = impossible cc
-gives-name (leaf t) s c g e = g ∙ cc
-gives-name (bracket t) s c g e = impossible cc
-gives-name (block ds t) s c g e = impossible cc
-gives-name (node l m r) s c g e = g ∙ cc
+gives-atom : (t : Tree) (s : Bytes) (a : Atom) → Gives t s → atomOf t ≡ some a → s ≡ asWritten a
+unfolding atomOf asWritten
+gives-atom nothing s a g e = impossible cc
+gives-atom (leaf b) s a g e = let q : b ≡ a = cc in g ∙ ap asWritten q
+gives-atom (bracket t) s a g e = impossible cc
+gives-atom (block ds t) s a g e = impossible cc
+gives-atom (node l m r) s a g e = let q : symbol m ≡ a = cc in g ∙ ap asWritten q
 
 gives-block : (t : Tree) (s : Bytes) (ds : List Declaration) → Gives t s → blockOf t ≡ some ds → FromLetToIn ds s
 unfolding blockOf
@@ -151,17 +151,17 @@ module _ (text : Bytes) (o : ℕ → ℕ) where
     -- The node of a subtree's root gives its part of the text.
     pub root-gives :
         {ts : List Token} (t : Tree) (i n k : ℕ) → Subtree text ts o ws t i n → suc k ≡ n + count t → Gives t (partOf text ws k)
-    unfolding flat characters charactersOffset
+    unfolding flat asWritten writtenOffset
     root-gives {ts} nothing i n k s e = tt
     root-gives {ts} (leaf a) i n k s e =
-        node-part (leaf-node text ts o ws a i n s k e) ∙ characters-stand text a (o i) _ (s .stands .0 .written)
+        node-part (leaf-node text ts o ws a i n s k e) ∙ written-stands text a (o i) _ (s .stands .0 .written)
     root-gives {ts} (bracket t) i n k s e = tt
     root-gives {ts} (block ds t) i n k s e =
         subst (FromLetToIn ds) (sym (node-part (block-node text ts o ws ds t i n s k e)))
         (let-to-in ds i (declarations-stand text ts o ws ds t i n s))
     root-gives {ts} (node l m r) i n k s e =
         operator-part (form text ts o ws l m r i n s) k _ _ _ _ _ (operator-node text ts o ws l m r i n s k e)
-        ∙ characters-stand text (symbol m) (o (i + length (flat l))) _ (operator-stands text ts o ws l m r i n s .0 .written)
+        ∙ written-stands text (symbol m) (o (i + length (flat l))) _ (operator-stands text ts o ws l m r i n s .0 .written)
 
 -- A table that begins with the words of a text's tree.
 module _ (text : Bytes) (ps : List Placed) (h : PastChecks text ps) (t : Tree) (is : IsReading (tokensOf ps) t) (v : List ℕ) where
@@ -183,13 +183,13 @@ module _ (text : Bytes) (ps : List Placed) (h : PastChecks text ps) (t : Tree) (
           let none-left : getD (subtrees t) k nothing ≡ nothing = List·getD-eq-default (subtrees t) nothing (omega (arith, subtrees-length t)) in
           subst (λ u. Gives u (partOf text table k)) (sym none-left) tt
 
-  -- Offset and length give the characters of a name or number, and the operator, as they stand in the text.
-  pub node-characters :
-      (k : ℕ) (c : Bytes) → getD (nodeNames t) k none ≡ some c → partOf text (words (offsetOf text ps) startTable t 0 0 ++ v) k ≡ c
-  unfolding nameOf
-  node-characters k c f =
-      gives-name (getD (subtrees t) k nothing) _ c (table-gives k)
-      (sym (List·getD-map nameOf (subtrees t) k nothing) ∙ ap (λ l. getD l k none) (names-of t) ∙ f)
+  -- Offset and length give the bytes of a name, number or operator as they are written in the text.
+  pub node-written :
+      (k : ℕ) (a : Atom) → getD (nodeAtoms t) k none ≡ some a → partOf text (words (offsetOf text ps) startTable t 0 0 ++ v) k ≡ asWritten a
+  unfolding atomOf
+  node-written k a f =
+      gives-atom (getD (subtrees t) k nothing) _ a (table-gives k)
+      (sym (List·getD-map atomOf (subtrees t) k nothing) ∙ ap (λ l. getD l k none) (atoms-of t) ∙ f)
 
   -- Of a block they give the text from `let` to `in`.
   pub node-blocks :

@@ -2,7 +2,7 @@
 -- kinds, offsets and lengths of its tokens gives the tokens back.
 use mathlib.Core.Path.{_≡_, refl, sym, ap, ap₂, subst, _∙_}
 use mathlib.Core.Bool.{true}
-use mathlib.Core.List.{List, [], _∷_, _++_, map, append-assoc}
+use mathlib.Core.List.{List, [], _∷_, _++_, append-assoc}
 use Prim.Native.Nat.{ℕ, zero, suc, _+_, _-_, _≤_}
 use native.Mathlib.Omega.{arith}
 use native.Mathlib.Nat.{sub-zero}
@@ -28,15 +28,16 @@ use Rattle.grammar.specs.Token.{
   Atom,
   Structure,
   structureNumber,
-  characters,
+  asWritten,
+  doubled,
 }
 use Rattle.grammar.specs.Spelling.{continues, Stops}
 use Rattle.grammar.specs.Outcome.{Outcome, refused, passed}
 use Rattle.grammar.specs.Scan.{Placed, run, Front, nothing, wrong, taken, front, before, scan}
-use Rattle.grammar.specs.Nodes.{charactersOffset}
+use Rattle.grammar.specs.Nodes.{writtenOffset}
 use Rattle.grammar.specs.Coded.{kindOf, tokenOf}
-use Rattle.grammar.specs.Answer.{tokensOf}
 use Rattle.grammar.proofs.Lists.{all-map}
+use Rattle.grammar.proofs.Doubling.{undoubled-doubled}
 use Rattle.grammar.proofs.Runs.{ran, front-spelled}
 use Rattle.grammar.proofs.Scanned.{Next, next-token, refused-not-passed}
 use Rattle.grammar.proofs.Logic.{impossible}
@@ -180,23 +181,23 @@ tokens-stand room text ps h = all-map (Stands 0 text) (StandsIn text) whole ps (
     whole : (p : Placed) → Stands 0 text p → StandsIn text p
     whole p s = (s .2 .0, ap (λ n. drop n text) (sym (sub-zero (p .start))) ∙ s .2 .1)
 
--- The characters of a name or number stand in the text, ..
-pub characters-stand :
+-- The bytes of a name or number stand in the text as written, ..
+pub written-stands :
     (text : Bytes) (a : Atom) (start : ℕ) (rest : Bytes) → drop start text ≡ spelling (atom a) ++ rest
-    → take (length (characters a)) (drop (charactersOffset a start) text) ≡ characters a
-unfolding charactersOffset spelling characters
-characters-stand text (symbol w) start rest e = ap (take (length w)) e ∙ take-append-seam w rest
-characters-stand text (number d) start rest e = ap (take (length d)) e ∙ take-append-seam d rest
-characters-stand text (quoted n) start rest e =
-    ap (take (length n)) (sym (drop-drop 1 start text) ∙ ap (drop 1) e ∙ append-assoc n (39 ∷ []) rest)
-    ∙ take-append-seam n (39 ∷ rest)
+    → take (length (asWritten a)) (drop (writtenOffset a start) text) ≡ asWritten a
+unfolding writtenOffset spelling asWritten
+written-stands text (symbol w) start rest e = ap (take (length w)) e ∙ take-append-seam w rest
+written-stands text (number d) start rest e = ap (take (length d)) e ∙ take-append-seam d rest
+written-stands text (quoted c) start rest e =
+    ap (take (length (doubled c))) (sym (drop-drop 1 start text) ∙ ap (drop 1) e ∙ append-assoc (doubled c) (39 ∷ []) rest)
+    ∙ take-append-seam (doubled c) (39 ∷ rest)
 
--- The kind and the characters of an atom, or the kind of a token of structure, give it back.
-pub atom-coded : (a : Atom) → tokenOf (kindOf (atom a)) (characters a) ≡ atom a
-unfolding tokenOf kindOf characters
+-- The kind and the bytes of an atom as written, or the kind of a token of structure, give it back.
+pub atom-coded : (a : Atom) → tokenOf (kindOf (atom a)) (asWritten a) ≡ atom a
+unfolding tokenOf kindOf asWritten
 atom-coded (symbol w) = refl
 atom-coded (number d) = refl
-atom-coded (quoted c) = refl
+atom-coded (quoted c) = ap (λ d. atom (quoted d)) (undoubled-doubled c)
 
 pub structure-coded : (s : Structure) (c : Bytes) → tokenOf (kindOf (structure s)) c ≡ structure s
 unfolding tokenOf kindOf structureNumber

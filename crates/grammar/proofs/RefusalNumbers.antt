@@ -2,12 +2,12 @@
 -- A check is built from refusals with a number written out, from choices and from one check after another, and each keeps to the numbers.
 use mathlib.Core.Path.{_≡_, refl}
 use mathlib.Core.Logic.{_⊎_, inl, inr}
-use mathlib.Core.Bool.{Bool, true, false, _&&_}
+use mathlib.Core.Bool.{Bool, true, false}
 use mathlib.Core.List.{List, [], _∷_}
 use Prim.Native.Nat.{ℕ, zero, suc, _+_, _≤_}
 use native.Mathlib.Omega.{arith}
 use lib.Dec.{leb, ltb, eqb}
-use lib.ListN.{length, drop, getD}
+use lib.ListN.{length, drop}
 use Rattle.grammar.specs.Open.{Open, deepest}
 use Rattle.grammar.specs.Bytes.{Bytes}
 use Rattle.grammar.specs.Token.{
@@ -21,12 +21,10 @@ use Rattle.grammar.specs.Token.{
   opens,
   closes,
   separates,
-  inQuotes,
-  longestName,
 }
 use Rattle.grammar.specs.Outcome.{Outcome, refused, passed, andThen, placed}
 use Rattle.grammar.specs.Operator.{Table, permitted}
-use Rattle.grammar.specs.Scan.{Placed, run, Front, nothing, wrong, taken, atMost, quotedName, frontOf, front, before, scan}
+use Rattle.grammar.specs.Scan.{Placed, run, Front, nothing, wrong, taken, atMost, charactersAt, isClosed, quotedName, quotedWith, frontOf, front, before, scan}
 use Rattle.grammar.specs.Nesting.{Move, stays, broken, enters, becomes, leaves, move, closeInnermost, nesting}
 use Rattle.grammar.specs.Declaration.{
   Parsed,
@@ -110,10 +108,8 @@ unfolding atMost
 atMost-between most n t = choice FrontBetween (leb n most) _ _ tt (omega arith)
 
 quotedName-between : (s : Bytes) → FrontBetween (quotedName s)
-unfolding quotedName
-quotedName-between s =
-    let n = run inQuotes s in
-    choice FrontBetween (leb 1 n && leb n longestName && eqb (getD s n 0) 39) _ _ tt (omega arith)
+unfolding quotedName quotedWith
+quotedName-between s = choice FrontBetween (isClosed (charactersAt s) s) _ _ tt (omega arith)
 
 frontOf-between : (c : ℕ) (s : Bytes) → FrontBetween (frontOf c s)
 unfolding frontOf

@@ -4,10 +4,10 @@ use mathlib.Core.Path.{_≡_, refl, sym, ap, subst, _∙_}
 use mathlib.Core.Bool.{Bool, true, false, _&&_, _||_, not, true≢false}
 use mathlib.Core.Logic.{_⊎_, inl, inr}
 use mathlib.Core.List.{[], _∷_, _++_, append-assoc}
-use Prim.Native.Nat.{ℕ, zero, suc, _+_, _≤_}
+use Prim.Native.Nat.{ℕ, suc, _+_, _≤_}
 use native.Mathlib.Omega.{arith}
 use lib.Dec.{leb, eqb}
-use lib.ListN.{length, take, drop, getD, length-append}
+use lib.ListN.{length, take, drop, length-append}
 use lib.Seq.{take-append-seam, getD-append-seam}
 use borrow.Author.Tests.{eqb-true, eq-eqb, leb-true, le-leb, not-true}
 use Rattle.grammar.specs.Bytes.{Bytes, bytes, same, member, every}
@@ -23,6 +23,8 @@ use Rattle.grammar.specs.Token.{
   inSign,
   inNumber,
   inQuotes,
+  isQuote,
+  doubled,
   Token,
   symbol,
   number,
@@ -44,16 +46,9 @@ use Rattle.grammar.specs.Token.{
   longestNumber,
 }
 use Rattle.grammar.specs.Spelling.{continues, Stops}
-use Rattle.grammar.specs.Scan.{run, Front, wrong, taken, keywordOrSymbol, atMost, quotedName, frontOf, front}
-use Rattle.grammar.proofs.Logic.{and-left, and-right, and-intro, or-cases}
-
-pub every-cons : (p : ℕ → Bool) (b : ℕ) (s : Bytes) → every p (b ∷ s) ≡ p b && every p s
-unfolding every
-every-cons p b s = go (p b) refl
-  where
-    go : (h : Bool) → p b ≡ h → every p (b ∷ s) ≡ p b && every p s
-    go true e = rw (e, every)
-    go false e = rw (e, every)
+use Rattle.grammar.specs.Scan.{run, Front, taken, keywordOrSymbol, atMost, isClosed, quotedName, quotedWith, frontOf, front}
+use Rattle.grammar.proofs.Logic.{and-left, and-right, and-intro, or-cases, every-cons}
+use Rattle.grammar.proofs.Doubling.{characters-doubled}
 
 pub run-cons : (p : ℕ → Bool) (b : ℕ) (s : Bytes) → p b ≡ true → run p (b ∷ s) ≡ suc (run p s)
 unfolding run
@@ -91,12 +86,6 @@ ran p (b ∷ s) = go (p b) refl (ran p s)
           stops = r .stops;
         })
     go false e r = rw (run-stops p (b ∷ s) e) (record { passes = refl; size = refl; stops = e })
-
--- A text cut at a byte that is not 0, the default.
-pub cut-at : (s : Bytes) (n k : ℕ) → getD s n 0 ≡ suc k → s ≡ take n s ++ suc k ∷ drop (suc n) s
-cut-at [] n k e = absurd (omega arith)
-cut-at (b ∷ s) zero k e = ap (λ z. z ∷ s) e
-cut-at (b ∷ s) (suc n) k e = ap (λ r. b ∷ r) (cut-at s n k e)
 
 -- The longest run of a test, if it is not too long.
 abbrev pub longest : (ℕ → Bool) → ℕ → (Bytes → Token) → Bytes → Front
@@ -209,34 +198,28 @@ front-run
 unfolding atMost
 front-run k w s e h h′ = front-longest k w s e h′ ∙ rw (le-leb (length w) (k .most) h, atMost)
 
--- `n` bytes and then a quote make a quoted name.
-closed : ℕ → Bytes → Bool
-closed n s = leb 1 n && leb n longestName && eqb (getD s n 0) 39
-
-quotedOf : ℕ → Bytes → Front
-quotedOf n s = elim (closed n s) [ true ↦ taken (atom (quoted (take n s))) (n + 2) | false ↦ wrong 3 ]
-
-name-quoted : (s : Bytes) → quotedName s ≡ quotedOf (run inQuotes s) s
-unfolding quotedName quotedOf closed
-name-quoted s = refl
-
-quote-stops : (s : Bytes) → Stops inQuotes (39 ∷ s)
-unfolding inQuotes
-quote-stops s = refl
-
--- A quoted name is taken.
-front-quoted : (c s : Bytes) → isToken (atom (quoted c)) ≡ true → front (39 ∷ (c ++ 39 ∷ s)) ≡ taken (atom (quoted c)) (length c + 2)
-unfolding front frontOf class member isToken quotedOf closed
-front-quoted c s e =
-    name-quoted (c ++ 39 ∷ s)
-    ∙ ap (λ n. quotedOf n (c ++ 39 ∷ s)) (run-append inQuotes c (39 ∷ s) (and-right sized (every inQuotes c) e) (quote-stops s))
-    ∙ rw (ends, quotedOf) (ap (λ v. taken (atom (quoted v)) (length c + 2)) (take-append-seam c (39 ∷ s)))
+-- A name in quotes, doubled and closed by a quote that is none of a pair, is taken.
+front-quoted :
+    (c s : Bytes) → isToken (atom (quoted c)) ≡ true → Stops isQuote s
+    → front (39 ∷ (doubled c ++ 39 ∷ s)) ≡ taken (atom (quoted c)) (length (doubled c) + 2)
+unfolding front frontOf class member isToken quotedName quotedWith isQuote
+front-quoted c s e h =
+    ap (λ d. quotedWith d (doubled c ++ 39 ∷ s)) (characters-doubled c s (and-right sized (every inQuotes c) e) h) ∙ rw (closed, quotedWith)
   where
     sized : Bool
     sized = leb 1 (length c) && leb (length c) longestName
 
-    ends : closed (length c) (c ++ 39 ∷ s) ≡ true
-    ends = and-intro (and-left sized (every inQuotes c) e) (ap (λ x. eqb x 39) (getD-append-seam c 39 s 0))
+    some : 1 ≤ length c
+    some = leb-true 1 (length c) (and-left (leb 1 (length c)) (leb (length c) longestName) (and-left sized (every inQuotes c) e))
+
+    few : length c ≤ longestName
+    few = leb-true (length c) longestName (and-right (leb 1 (length c)) (leb (length c) longestName) (and-left sized (every inQuotes c) e))
+
+    closed : isClosed c (doubled c ++ 39 ∷ s) ≡ true
+    closed =
+        and-intro
+        (and-intro (le-leb _ (length c) (omega (arith, some))) (le-leb (length c) longestName few))
+        (ap isQuote (getD-append-seam (doubled c) 39 s 0))
 
 or-false : (a b : Bool) → a || b ≡ false → (a ≡ false) × (b ≡ false)
 or-false true b e = absurd (true≢false e)
@@ -302,8 +285,8 @@ front-spelled (atom (number d)) e s h =
     (leb-true (length d) longestNumber (and-right (isNumber d) (leb (length d) longestNumber) e))
     h
 front-spelled (atom (quoted c)) e s h =
-    ap (λ r. front (39 ∷ r)) (append-assoc c (39 ∷ []) s)
-    ∙ front-quoted c s e
+    ap (λ r. front (39 ∷ r)) (append-assoc (doubled c) (39 ∷ []) s)
+    ∙ front-quoted c s e h
     ∙ ap (taken (atom (quoted c))) (simp length-append (omega arith))
 front-spelled (structure opening) e s h = refl
 front-spelled (structure closing) e s h = refl

@@ -18,6 +18,7 @@ use Rattle.grammar.specs.Token.{
   inWord,
   inSign,
   inNumber,
+  isQuote,
   Token,
   symbol,
   number,
@@ -80,7 +81,7 @@ refused-not-passed e h = impossible cc
 
 -- No token goes on with a space.
 space-stops : (t : Token) (s : Bytes) → Stops (continues t) (32 ∷ s)
-unfolding continues inWord inSign inNumber class member
+unfolding continues inWord inSign inNumber isQuote class member
 space-stops (atom (symbol w)) s = go (isWord w) refl
   where
     go : (x : Bool) → isWord w ≡ x → continues (atom (symbol w)) 32 ≡ false
@@ -217,6 +218,11 @@ spells-joined : (ts : List Token) → areTokens ts ≡ true → Spells (joinToke
 unfolding joinTokens areTokens every
 spells-joined [] e = spells-none refl
 spells-joined (t ∷ ts) e = spells-behind [] t ts refl e (spells-spaced ts (and-right (isToken t) (areTokens ts) e))
+
+-- A token by itself spells itself.
+pub token-spelled : (t : Token) → isToken t ≡ true → Spells (spelling t) (t ∷ [])
+unfolding areTokens joinTokens spaced
+token-spelled t e = subst (λ s. Spells s (t ∷ [])) (append-nil (spelling t)) (spells-joined (t ∷ []) (and-intro e refl))
 
 -- Scanning what was written gives back the tokens.
 pub scan-joined

@@ -9,7 +9,7 @@ use native.Mathlib.Omega.{arith}
 use lib.ListN.{length, drop, getD, length-append, List·getD-append}
 use lib.Seq.{append-snoc, drop-append-seam, drop-drop, getD-drop, getD-append-add}
 use Rattle.grammar.specs.Bytes.{Bytes}
-use Rattle.grammar.specs.Token.{Atom, Token, atom, structure, symbol, closing, keywordLet, keywordIn, keywordEnd, characters}
+use Rattle.grammar.specs.Token.{Atom, Token, atom, structure, symbol, closing, keywordLet, keywordIn, keywordEnd, asWritten}
 use Rattle.grammar.specs.Operator.{Fixity, Prefix, Infix, Postfix, Table}
 use Rattle.grammar.specs.Scan.{Placed}
 use Rattle.grammar.specs.Declaration.{Declaration, startTable, allTokens, declareAll}
@@ -23,7 +23,7 @@ use Rattle.grammar.specs.Nodes.{
   bracketKind,
   blockKind,
   leafKind,
-  charactersOffset,
+  writtenOffset,
   count,
   nodeWords,
   wordsPerNode,
@@ -42,7 +42,8 @@ use Rattle.grammar.proofs.CheckedTrees.{InnerChecked}
 use Rattle.grammar.proofs.SpanPlaces.{InSpan, in-text, in-pair, in-body, in-left, in-right}
 use Rattle.grammar.proofs.TextTree.{bracket-shorter, block-shorter, left-shorter, right-shorter}
 use Rattle.grammar.proofs.Present.{some-node}
-use Rattle.grammar.proofs.BareNames.{Unquoted, behind-operator, behind-opening, behind-in, before-first}
+use Rattle.grammar.proofs.Doubling.{Unquoted}
+use Rattle.grammar.proofs.BareNames.{behind-operator, behind-opening, behind-in, before-first}
 
 -- The tree of each node, in the order of the table.
 unfoldable pub subtrees : Tree → List Tree
@@ -319,7 +320,7 @@ module _ (text : Bytes) (ts : List Token) (o : ℕ → ℕ) (ws : List ℕ) wher
   -- The node of a name or number.
   pub leaf-node :
       (a : Atom) (i n : ℕ) → Subtree (leaf a) i n → (k : ℕ) → suc k ≡ n + count (leaf a)
-      → Node ws k (leafKind a) 0 0 (charactersOffset a (o i)) (length (characters a)) 0
+      → Node ws k (leafKind a) 0 0 (writtenOffset a (o i)) (length (asWritten a)) 0
   unfolding words count
   leaf-node a i n s k e =
       let h : k ≡ n = omega arith in

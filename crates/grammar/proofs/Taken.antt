@@ -26,7 +26,8 @@ use Rattle.grammar.specs.Token.{
   signs as signBytes,
   beginsWord,
   inWord,
-  inQuotes,
+  isQuote,
+  doubled,
   Token,
   symbol,
   quoted,
@@ -46,13 +47,13 @@ use Rattle.grammar.specs.Token.{
   longestNumber,
 }
 use Rattle.grammar.specs.Spelling.{continues, Stops}
-use Rattle.grammar.specs.Scan.{run, Front, nothing, wrong, taken, keywordOrSymbol, atMost, quotedName, frontOf, front}
+use Rattle.grammar.specs.Scan.{run, Front, nothing, wrong, taken, keywordOrSymbol, atMost, charactersAt, quotedName, quotedWith, frontOf, front}
 use Rattle.grammar.proofs.Logic.{and-left, and-right, and-intro, or-cases, clash, same-eq}
+use Rattle.grammar.proofs.Doubling.{a-quote, CharactersFound, characters-found, closed-behind, quote-stops}
 use Rattle.grammar.proofs.Runs.{
   Ran,
   run-cons,
   ran,
-  cut-at,
   longest,
   Kind,
   words,
@@ -190,33 +191,35 @@ pub stops-always : (s : Bytes) → Stops (λ b. false) s
 stops-always [] = tt
 stops-always (b ∷ s) = refl
 
--- A quoted name is closed by a quote.
+-- A quoted name is closed by a quote that is none of a pair.
 quoted-told : (s : Bytes) → Told (39 ∷ s) (quotedName s)
-unfolding quotedName isToken spelling continues
+unfolding quotedName quotedWith isToken spelling continues
 quoted-told s = branch (Told (39 ∷ s)) (sized && closes-it) _ _ begins tt
   where
-    n : ℕ
-    n = run inQuotes s
+    c : Bytes
+    c = charactersAt s
 
     sized : Bool
-    sized = leb 1 n && leb n longestName
+    sized = leb 1 (length c) && leb (length c) longestName
 
     closes-it : Bool
-    closes-it = eqb (getD s n 0) 39
+    closes-it = isQuote (getD s (length (doubled c)) 0)
 
-    r : Ran inQuotes s n
-    r = ran inQuotes s
+    f : CharactersFound s
+    f = characters-found s
 
-    begins : sized && closes-it ≡ true → Begins (39 ∷ s) (atom (quoted (take n s))) (n + 2)
-    begins e = record {
-      rest = drop (suc n) s;
-      written =
-          ap (λ v. 39 ∷ v) (cut-at s n 38 (eqb-true (getD s n 0) 39 (and-right sized closes-it e)))
-          ∙ ap (λ v. 39 ∷ v) (sym (append-assoc (take n s) (39 ∷ []) (drop (suc n) s)));
-      size = simp length-append (omega (arith, r .size));
-      valid = rw (r .size) (and-intro (and-left sized closes-it e) (r .passes));
-      stops = stops-always (drop (suc n) s);
-    }
+    begins : sized && closes-it ≡ true → Begins (39 ∷ s) (atom (quoted c)) (length (doubled c) + 2)
+    begins e =
+        let (r, closed) = closed-behind s f (a-quote _ (and-right sized closes-it e)) in
+        record {
+          rest = r;
+          written =
+              ap (_∷_ 39) (f .written ∙ ap (λ v. doubled c ++ v) closed)
+              ∙ ap (_∷_ 39) (sym (append-assoc (doubled c) (39 ∷ []) r));
+          size = simp length-append (omega arith);
+          valid = and-intro (and-left sized closes-it e) (f .allowed);
+          stops = quote-stops r (sym (ap charactersAt closed) ∙ f .ended);
+        }
 
 -- Four classes hold one byte each.
 pub record Solo (b c : ℕ) : Type 0 where

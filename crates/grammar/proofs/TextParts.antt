@@ -13,8 +13,7 @@ use Rattle.grammar.specs.Spelling.{continues, Stops, Splits, noMore, one
 use Rattle.grammar.specs.Outcome.{passed}
 use Rattle.grammar.specs.Scan.{Placed, scan}
 use Rattle.grammar.specs.Answer.{tokensOf, startsOf, offsetOf}
-use Rattle.grammar.proofs.Logic.{and-left, and-right, and-intro}
-use Rattle.grammar.proofs.Runs.{every-cons}
+use Rattle.grammar.proofs.Logic.{and-left, and-right, and-intro, every-cons}
 use Rattle.grammar.proofs.Scanned.{scan-spelled, spells-none, spells-next}
 use Rattle.grammar.proofs.Offsets.{First, first-found, first-size}
 

@@ -6,12 +6,12 @@ use Prim.Native.Nat.{ℕ, suc, pred, _+_, _-_, _≤_, _<_}
 use native.Mathlib.Omega.{arith}
 use lib.ListN.{length, length-append}
 use Rattle.grammar.specs.Bytes.{Bytes}
-use Rattle.grammar.specs.Token.{Atom, characters}
+use Rattle.grammar.specs.Token.{Atom, asWritten}
 use Rattle.grammar.specs.Operator.{Table}
 use Rattle.grammar.specs.Declaration.{Declaration, allTokens}
 use Rattle.grammar.specs.SpanTree.{fixity}
 use Rattle.grammar.specs.Tree.{Tree, nothing, leaf, bracket, block, node, flat, spanTree}
-use Rattle.grammar.specs.Nodes.{leafKind, operatorWords, precedenceOver, charactersOffset, count, nodeWords, words}
+use Rattle.grammar.specs.Nodes.{leafKind, operatorWords, precedenceOver, writtenOffset, count, nodeWords, words}
 
 -- How many tokens a tree has.
 leaf-size : (a : Atom) → length (flat (leaf a)) ≡ 1
@@ -41,7 +41,7 @@ pub words-offsets :
 unfolding words
 words-offsets f g T nothing i n h = refl
 words-offsets f g T (leaf t) i n h =
-    ap (λ a. nodeWords (leafKind t) 0 0 (charactersOffset t a) (length (characters t)) 0) (h i (omega arith) (omega (arith, leaf-size t)))
+    ap (λ a. nodeWords (leafKind t) 0 0 (writtenOffset t a) (length (asWritten t)) 0) (h i (omega arith) (omega (arith, leaf-size t)))
 words-offsets f g T (bracket t) i n h =
     behind (words-offsets f g T t (suc i) n (λ j p q. h j (omega arith) (omega (arith, bracket-size t)))) _
 words-offsets f g T (block ds t) i n h =

@@ -8,7 +8,7 @@ use lib.Dec.{leb}
 use lib.ListN.{length, drop, getD}
 use Rattle.grammar.specs.Spans.{Span}
 use Rattle.grammar.specs.Bytes.{Bytes}
-use Rattle.grammar.specs.Token.{Token}
+use Rattle.grammar.specs.Token.{Token, undoubled}
 use Rattle.grammar.specs.Outcome.{Outcome, refused, passed, andThen, placed}
 use Rattle.grammar.specs.Scan.{Placed, scan}
 use Rattle.grammar.specs.Nesting.{nesting}
@@ -124,6 +124,15 @@ writeInto buffer text =
     elim (leb (length text) (length buffer) && leb (length text) longestText) [
       | true ↦ record { answer = success (length text); buffer = over text buffer }
       | false ↦ record { answer = rejection 13 0; buffer = buffer }
+    ]
+
+-- 02, §5: the characters of a name, from its bytes `w` as written, for those who need more than a part of the text. 13 where the buffer is too
+-- short.
+unfoldable pub writeName : Bytes → List ℕ → Result
+writeName w b =
+    elim (leb (length (undoubled w)) (length b)) [
+      | true ↦ record { answer = success (length (undoubled w)); buffer = over (undoubled w) b }
+      | false ↦ record { answer = rejection 13 0; buffer = b }
     ]
 
 unfoldable pub canonicalizeInto : List ℕ → Outcome Reading → Result

@@ -6,7 +6,7 @@ use mathlib.Core.Option.{Option, none, some}
 use Prim.Native.Nat.{ℕ, _≤_}
 use lib.ListN.{length}
 use Rattle.grammar.specs.Bytes.{Bytes, All}
-use Rattle.grammar.specs.Token.{keywordLet, keywordIn, structure, characters, spelling, Token}
+use Rattle.grammar.specs.Token.{keywordLet, keywordIn, structure, Atom, symbol, spelling, Token}
 use Rattle.grammar.specs.Spelling.{Spells, TokenAt}
 use Rattle.grammar.specs.Declaration.{Declaration, allTokens, startTable, areDeclarations, Free, declareAll}
 use Rattle.grammar.specs.Span.{Item}
@@ -20,13 +20,13 @@ use Rattle.grammar.specs.Spans.{startOf, Span, SpanOf}
 use Rattle.grammar.specs.Fault.{Rules, current, PastUnder, Past}
 use Rattle.grammar.specs.Abstract.{Agree}
 
--- What each node stands for, in the order of the table: the characters of a name or number, the operator; none for a bracket or block.
-unfoldable pub nodeNames : Tree → List (Option Bytes)
-nodeNames nothing = []
-nodeNames (leaf a) = some (characters a) ∷ []
-nodeNames (bracket t) = nodeNames t ++ none ∷ []
-nodeNames (block ds t) = nodeNames t ++ none ∷ []
-nodeNames (node l m r) = nodeNames l ++ (nodeNames r ++ some m ∷ [])
+-- What each node stands for, in the order of the table: a name, a number or an operator; none for a bracket or block.
+unfoldable pub nodeAtoms : Tree → List (Option Atom)
+nodeAtoms nothing = []
+nodeAtoms (leaf a) = some a ∷ []
+nodeAtoms (bracket t) = nodeAtoms t ++ none ∷ []
+nodeAtoms (block ds t) = nodeAtoms t ++ none ∷ []
+nodeAtoms (node l m r) = nodeAtoms l ++ (nodeAtoms r ++ some (symbol m) ∷ [])
 
 -- The declarations of each block, in the order of the table; none for another node.
 unfoldable pub nodeBlocks : Tree → List (Option (List Declaration))

@@ -4,7 +4,7 @@ use Prim.Native.Nat.{ℕ}
 use lib.Dec.{eqb}
 use Rattle.grammar.specs.Bytes.{Bytes}
 use Rattle.grammar.specs.Token.{symbol, number, quoted, opening, closing, semicolon, keywordLet, keywordIn, keywordEnd}
-use Rattle.grammar.specs.Token.{Token, atom, structure, structureNumber}
+use Rattle.grammar.specs.Token.{Token, atom, structure, structureNumber, undoubled}
 use Rattle.grammar.specs.Operator.{Fixity, Prefix, Infix, Postfix}
 
 -- The number of a token's kind.
@@ -14,17 +14,17 @@ kindOf (atom (number d)) = 2
 kindOf (atom (quoted c)) = 3
 kindOf (structure s) = structureNumber s
 
--- The token of a kind with these characters.
+-- The token of a kind with these bytes, as written.
 unfoldable pub tokenOf : ℕ → Bytes → Token
-tokenOf kind c =
+tokenOf kind w =
     elim (eqb kind 1) [
-      | true ↦ atom (symbol c)
+      | true ↦ atom (symbol w)
       | false ↦
           elim (eqb kind 2) [
-            | true ↦ atom (number c)
+            | true ↦ atom (number w)
             | false ↦
                 elim (eqb kind 3) [
-                  | true ↦ atom (quoted c)
+                  | true ↦ atom (quoted (undoubled w))
                   | false ↦
                       elim (eqb kind 4) [
                         | true ↦ structure opening

@@ -9,7 +9,7 @@ use Prim.Native.Nat.{ℕ, zero, suc, _+_, _-_, _*_, _≤_, _<_}
 use lib.Dec.{eqb}
 use lib.ListN.{length, take, drop, getD}
 use Rattle.grammar.specs.Bytes.{Bytes}
-use Rattle.grammar.specs.Token.{Atom, symbol, number, quoted, Token}
+use Rattle.grammar.specs.Token.{Atom, symbol, number, quoted, isQuote, undoubled, Token}
 use Rattle.grammar.specs.Outcome.{Outcome, refused, passed}
 use Rattle.grammar.specs.Scan.{Placed, scan}
 use Rattle.grammar.specs.Operator.{Table}
@@ -54,7 +54,8 @@ nodeLength ws k = wordOf ws k 4
 abbrev pub nodePrecedence : List ℕ → ℕ → ℕ
 nodePrecedence ws k = wordOf ws k 5
 
--- "Offset and length give the name's characters, the number's digits or the operator's mark .. a block has `let` to `in` inclusive."
+-- "Offset and length give .. the number's digits or the operator's mark .. a block has `let` to `in` inclusive"; of a quoted name "the
+-- bytes as written between the outer quotes, and these are handed out" (02, §5).
 abbrev pub partOf : Bytes → List ℕ → ℕ → Bytes
 partOf text ws k = take (nodeLength ws k) (drop (nodeOffset ws k) text)
 
@@ -62,10 +63,10 @@ partOf text ws k = take (nodeLength ws k) (drop (nodeOffset ws k) text)
 abbrev pub byteBefore : Bytes → ℕ → ℕ
 byteBefore text offset = getD (0 ∷ text) offset 0
 
--- "A name's characters are handed out as they stand in the text, without quotes": the name with the characters `c` behind the byte
--- `b` is a quoted one if that is a quote.
+-- The name of the bytes `w` behind the byte `b`: a quoted one if that is a quote, and then `w` are "the bytes as written between the outer
+-- quotes" (02, §5).
 unfoldable pub nameBehind : ℕ → Bytes → Atom
-nameBehind b c = elim (eqb b 39) [ true ↦ quoted c | false ↦ symbol c ]
+nameBehind b w = elim (isQuote b) [ true ↦ quoted (undoubled w) | false ↦ symbol w ]
 
 -- The declarations that a text from `let` to `in` spells: those of the tokens between its first and its last. (Of a text that cannot be
 -- scanned, none.)

@@ -8,7 +8,7 @@ use mathlib.Core.List.{List, [], _∷_, _++_}
 use Prim.Native.Nat.{ℕ, suc, _+_, _≤_, _<_}
 use lib.ListN.{length, take}
 use Rattle.grammar.specs.Bytes.{Bytes}
-use Rattle.grammar.specs.Token.{inNumber, longestName, longestNumber, symbol, quoted, keywordIn, Token, atom, structure}
+use Rattle.grammar.specs.Token.{inNumber, quoteByte, longestName, longestNumber, symbol, quoted, keywordIn, Token, atom, structure}
 use Rattle.grammar.specs.Token.{spelling, isWord, isSign, isNumber, isToken}
 use Rattle.grammar.specs.Spelling.{continues, Stops, Splits, Spells, GoesOn, TokenAt}
 use Rattle.grammar.specs.Open.{Open, Fits, deepest, OpenAfter}
@@ -44,9 +44,11 @@ mostTokens = 1024
 pub data NoToken : Bytes → ℕ → Type 0 where
   -- "2: byte begins no token"
   beginsNone : {b : ℕ} {s : Bytes} → ((t : Token) (r : Bytes) → isToken t ≡ true → spelling t ≡ b ∷ r → ⊥) → NoToken (b ∷ s) 2
-  -- "3: quoted name malformed or unclosed"
+  -- "3: quoted name malformed or unclosed": the longest token, so no quote stands behind the one that closes it (02, §5).
   noQuotedName :
-      {s : Bytes} → ((c r : Bytes) → isToken (atom (quoted c)) ≡ true → 39 ∷ s ≡ spelling (atom (quoted c)) ++ r → ⊥) → NoToken (39 ∷ s) 3
+      {s : Bytes}
+      → ((c r : Bytes) → isToken (atom (quoted c)) ≡ true → quoteByte ∷ s ≡ spelling (atom (quoted c)) ++ r → Stops (continues (atom (quoted c))) r → ⊥)
+      → NoToken (quoteByte ∷ s) 3
   -- "4: word, sign or number too long"
   longName :
       {s : Bytes} (w r : Bytes) → s ≡ w ++ r → isWord w || isSign w ≡ true → Stops (continues (atom (symbol w))) r → longestName < length w

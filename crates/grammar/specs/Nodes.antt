@@ -3,7 +3,7 @@ use mathlib.Core.List.{List, [], _∷_, _++_}
 use mathlib.Core.Option.{Option, none, some}
 use Prim.Native.Nat.{ℕ, suc, pred, _+_, _-_}
 use lib.ListN.{length}
-use Rattle.grammar.specs.Token.{Atom, symbol, number, quoted, characters}
+use Rattle.grammar.specs.Token.{Atom, symbol, number, quoted, asWritten}
 use Rattle.grammar.specs.Bytes.{Bytes}
 use Rattle.grammar.specs.Operator.{Fixity, Prefix, Infix, Postfix, Table}
 use Rattle.grammar.specs.Declaration.{declareAll, allTokens}
@@ -37,11 +37,11 @@ leafKind (symbol w) = nameKind
 leafKind (number d) = numberKind
 leafKind (quoted c) = nameKind
 
--- "Offset and length give the name's characters, the number's digits": those of an atom that starts at `at`.
-unfoldable pub charactersOffset : Atom → ℕ → ℕ
-charactersOffset (symbol w) at = at
-charactersOffset (number d) at = at
-charactersOffset (quoted c) at = at + 1
+-- 02, §5: "Offset and length cover the bytes as written between the outer quotes": their offset in an atom that starts at `at`.
+unfoldable pub writtenOffset : Atom → ℕ → ℕ
+writtenOffset (symbol w) at = at
+writtenOffset (number d) at = at
+writtenOffset (quoted c) at = at + 1
 
 -- How many nodes a tree has.
 unfoldable pub count : Tree → ℕ
@@ -75,7 +75,7 @@ operatorWords (some Postfix) l r offset size precedence = nodeWords postfixKind 
 -- in force. "Children come before parents, left before right, the root last". 02, §6: "0 for names, numbers, brackets and blocks".
 unfoldable pub words : (ℕ → ℕ) → Table → Tree → ℕ → ℕ → List ℕ
 words start T nothing i n = []
-words start T (leaf a) i n = nodeWords (leafKind a) 0 0 (charactersOffset a (start i)) (length (characters a)) 0
+words start T (leaf a) i n = nodeWords (leafKind a) 0 0 (writtenOffset a (start i)) (length (asWritten a)) 0
 words start T (bracket t) i n = words start T t (suc i) n ++ nodeWords bracketKind (pred (n + count t)) 0 0 0 0
 words start T (block ds t) i n =
     words start (declareAll T ds) t (suc (suc (i + length (allTokens ds)))) n

@@ -4,10 +4,10 @@ use mathlib.Core.Bool.{Bool, true, false, _&&_}
 use mathlib.Core.List.{List, [], _∷_}
 use Prim.Native.Nat.{ℕ, zero, suc, _+_}
 use lib.Dec.{leb, eqb}
-use lib.ListN.{take, drop, getD}
+use lib.ListN.{length, take, drop, getD}
 use Rattle.grammar.specs.Bytes.{Bytes, bytes, same}
 use Rattle.grammar.specs.Token.{class, isBlankByte, letter, digit, sign, quote, opens, closes, separates}
-use Rattle.grammar.specs.Token.{inWord, inSign, inNumber, inQuotes, longestName, longestNumber}
+use Rattle.grammar.specs.Token.{inWord, inSign, inNumber, inQuotes, isQuote, doubled, longestName, longestNumber}
 use Rattle.grammar.specs.Token.{symbol, number, quoted, opening, closing, semicolon, keywordLet, keywordIn, keywordEnd}
 use Rattle.grammar.specs.Token.{Token, atom, structure}
 use Rattle.grammar.specs.Outcome.{Outcome, refused, passed}
@@ -43,11 +43,31 @@ keywordOrSymbol w =
 unfoldable pub atMost : ℕ → ℕ → Token → Front
 atMost most n t = elim (leb n most) [ true ↦ taken t n | false ↦ wrong 4 ]
 
--- "3: quoted name malformed or unclosed"; `s` begins behind the opening quote.
+-- The characters of a quoted name at the front, up to a quote that is none of a pair or a byte that cannot stand there. The test says
+-- that the byte before was the first quote of a pair.
+unfoldable pub charactersBehind : Bool → Bytes → Bytes
+charactersBehind paired [] = []
+charactersBehind true (b ∷ s) = elim (isQuote b) [ true ↦ b ∷ charactersBehind false s | false ↦ [] ]
+charactersBehind false (b ∷ s) =
+    elim (isQuote b) [
+      | true ↦ charactersBehind true s
+      | false ↦
+          elim (inQuotes b) [ true ↦ b ∷ charactersBehind false s | false ↦ [] ]
+    ]
+
+unfoldable pub charactersAt : Bytes → Bytes
+charactersAt s = charactersBehind false s
+
+-- `s` begins behind the opening quote, with the characters `c`: there are 1 to 63, and a quote closes them.
+abbrev pub isClosed : Bytes → Bytes → Bool
+isClosed c s = leb 1 (length c) && leb (length c) longestName && isQuote (getD s (length (doubled c)) 0)
+
+-- "3: quoted name malformed or unclosed"
+unfoldable pub quotedWith : Bytes → Bytes → Front
+quotedWith c s = elim (isClosed c s) [ true ↦ taken (atom (quoted c)) (length (doubled c) + 2) | false ↦ wrong 3 ]
+
 unfoldable pub quotedName : Bytes → Front
-quotedName s =
-    let n = run inQuotes s in
-    elim (leb 1 n && leb n longestName && eqb (getD s n 0) 39) [ true ↦ taken (atom (quoted (take n s))) (n + 2) | false ↦ wrong 3 ]
+quotedName s = quotedWith (charactersAt s) s
 
 -- The token that begins with the bytes `s`, whose first byte is of class `c`. "2: byte begins no token"
 unfoldable pub frontOf : ℕ → Bytes → Front

@@ -5,15 +5,16 @@ use mathlib.Core.List.{List, [], _∷_, _++_}
 use Prim.Native.Nat.{ℕ, _+_}
 use lib.ListN.{length, take}
 use Rattle.grammar.specs.Bytes.{Bytes, every}
-use Rattle.grammar.specs.Token.{isBlankByte, inWord, inSign, inNumber, symbol, number, quoted}
+use Rattle.grammar.specs.Token.{isBlankByte, inWord, inSign, inNumber, isQuote, symbol, number, quoted}
 use Rattle.grammar.specs.Token.{opening, closing, semicolon, keywordLet, keywordIn, keywordEnd}
 use Rattle.grammar.specs.Token.{Token, atom, structure, spelling, isWord, isToken}
 
--- The bytes with which a token would go on, if they stood behind it.
+-- The bytes with which a token would go on, if they stood behind it: a quoted name with a quote, which makes a pair of the one that
+-- would close it.
 unfoldable pub continues : Token → ℕ → Bool
 continues (atom (symbol w)) = elim (isWord w) [ true ↦ inWord | false ↦ inSign ]
 continues (atom (number d)) = inNumber
-continues (atom (quoted c)) = λ b. false
+continues (atom (quoted c)) = isQuote
 continues (structure opening) = λ b. false
 continues (structure closing) = λ b. false
 continues (structure semicolon) = λ b. false

@@ -107,11 +107,17 @@ inSign b = eqb (class b) sign
 unfoldable pub inNumber : ℕ → Bool
 inNumber b = eqb (class b) digit
 
--- "bytes from 32 to 126 other than `'`"
+-- A character of a quoted name: "bytes from 32 to 126". Since 02, §5, the quote is one too.
 unfoldable pub inQuotes : ℕ → Bool
-inQuotes b = between 32 126 b && not (eqb b 39)
+inQuotes b = between 32 126 b
 
--- A token with characters: a word or sign that is no structure word (`symbol`), a number, or a quoted name without its quotes.
+abbrev pub quoteByte : ℕ
+quoteByte = 39
+
+unfoldable pub isQuote : ℕ → Bool
+isQuote b = eqb b quoteByte
+
+-- A token with characters: a word or sign that is no structure word (`symbol`), a number, or a quoted name.
 pub data Atom : Type 0 where
   symbol : Bytes → Atom
   number : Bytes → Atom
@@ -125,17 +131,37 @@ pub data Token : Type 0 where
   atom : Atom → Token
   structure : Structure → Token
 
--- "A name's characters are handed out as they stand in the text, without quotes"; of a number, its digits.
+-- Its characters; of a number, its digits.
 unfoldable pub characters : Atom → Bytes
 characters (symbol w) = w
 characters (number d) = d
 characters (quoted c) = c
 
+-- 02, §5: "Inside a quoted name, two quotes in a row now stand for one quote character."
+unfoldable pub doubled : Bytes → Bytes
+doubled [] = []
+doubled (b ∷ c) = elim (isQuote b) [ true ↦ quoteByte ∷ quoteByte ∷ doubled c | false ↦ b ∷ doubled c ]
+
+-- Back: of a quote and the byte behind it the quote alone. The test says that the byte before was such a quote.
+unfoldable pub undoubledBehind : Bool → Bytes → Bytes
+undoubledBehind paired [] = []
+undoubledBehind true (b ∷ w) = undoubledBehind false w
+undoubledBehind false (b ∷ w) = b ∷ undoubledBehind (isQuote b) w
+
+unfoldable pub undoubled : Bytes → Bytes
+undoubled w = undoubledBehind false w
+
+-- "the bytes as written between the outer quotes" (02, §5); where there are no quotes, the bytes of the token.
+unfoldable pub asWritten : Atom → Bytes
+asWritten (symbol w) = w
+asWritten (number d) = d
+asWritten (quoted c) = doubled c
+
 -- The bytes of a token as they stand in a text.
 unfoldable pub spelling : Token → Bytes
 spelling (atom (symbol w)) = w
 spelling (atom (number d)) = d
-spelling (atom (quoted c)) = 39 ∷ c ++ 39 ∷ []
+spelling (atom (quoted c)) = quoteByte ∷ doubled c ++ quoteByte ∷ []
 spelling (structure opening) = bytes "("
 spelling (structure closing) = bytes ")"
 spelling (structure semicolon) = bytes ";"
@@ -173,7 +199,7 @@ unfoldable pub isNumber : Bytes → Bool
 isNumber [] = false
 isNumber (b ∷ s) = inNumber b && every inNumber s
 
--- "A word or sign has at most 63 bytes, a number at most 9 digits." "1 to 63 bytes"
+-- "A word or sign has at most 63 bytes, a number at most 9 digits." 02, §5: "The limit of 63 counts characters, not bytes"
 abbrev pub longestName : ℕ
 longestName = 63
 

@@ -15,7 +15,7 @@ use Rattle.rows.specs.Codes.{roleOf}
 abbrev pub precedenceOf : ℕ → ℕ
 precedenceOf c = rootPrecedence (roleOf c)
 
--- The words of a node with the characters of token number `i`; of an atom's node, whose kind goes by that of its token; and of the node of
+-- The words of a node with the bytes of token number `i`, as written; of an atom's node, whose kind goes by that of its token; and of the node of
 -- a block with `let` at token `i` and `in` at token `c`.
 abbrev pub tokenWords : ℕ → ℕ → ℕ → List ℕ → ℕ → ℕ → List ℕ
 tokenWords k first second K i precedence = nodeWords k first second (start K i) (size K i) precedence

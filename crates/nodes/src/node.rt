@@ -52,7 +52,7 @@ pub fn put(
     nodes[w + 5] = precedence as u32;
 }
 
-// The same with the characters of token `i`.
+// The same with the bytes of token `i`, as written.
 fn put_token(
     nodes: &mut [u32],
     at: usize,

@@ -1,4 +1,4 @@
--- Checks 6 and 7 look at the kinds of tokens alone: a token and one of its kind without characters make the same move.
+-- Checks 6 and 7 look at the kinds of tokens alone: a token and one of its kind without bytes make the same move.
 use mathlib.Core.Path.{_≡_, refl, ap, _∙_}
 use mathlib.Core.Bool.{true, false}
 use mathlib.Core.List.{List, [], _∷_, map}

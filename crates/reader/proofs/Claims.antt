@@ -9,10 +9,11 @@ use mathlib.Core.Path.{_≡_}
 use mathlib.Core.Logic.{_↔_}
 use mathlib.Core.Bool.{true}
 use mathlib.Core.List.{List, [], _∷_, _++_}
+use mathlib.Core.Option.{none, some}
 use Prim.Native.Nat.{ℕ, _≤_, _<_}
-use lib.ListN.{length, take}
+use lib.ListN.{length, take, getD}
 use Rattle.grammar.specs.Bytes.{Bytes}
-use Rattle.grammar.specs.Token.{Token, structure, opening, isNumber}
+use Rattle.grammar.specs.Token.{Token, Atom, atom, structure, opening, characters, asWritten, spelling, isNumber, isToken}
 use Rattle.grammar.specs.Spelling.{Spells}
 use Rattle.grammar.specs.Operator.{Fixity, Associativity, Table, role, Conditions, Permitted, conditions}
 use Rattle.grammar.specs.Declaration.{declares, startTable, isReserved, value}
@@ -27,8 +28,10 @@ use Rattle.grammar.specs.Abstract.{Agree}
 use Rattle.grammar.specs.Canonical.{strip, stripDeclaration}
 use Rattle.grammar.specs.MatchingPair.{MatchingPair, remaining}
 use Rattle.grammar.specs.Fault.{current, withoutReserving, withFourConditions, longestText, Fault, Past, Unreserved, Conditioned}
-use Rattle.grammar.specs.Claim.{BlocksLawful, operatorsAmong, operatorsOf, FirstWithout, EmptyInside, TreeOf, ReadingOf, canonicalTree, canonicalBytes, Faithful}
+use Rattle.grammar.specs.Claim.{nodeAtoms, BlocksLawful, operatorsAmong, operatorsOf, FirstWithout, EmptyInside, TreeOf, ReadingOf, canonicalTree, canonicalBytes, Faithful}
 use Rattle.grammar.proofs.Numbers as Numbers
+use Rattle.grammar.proofs.Scanned as Scanned
+use Rattle.grammar.proofs.Names as Names
 use Rattle.grammar.proofs.StripDeclarations as StripDeclarations
 use Rattle.grammar.proofs.ClimbComplete.{climb-unique}
 use Rattle.grammar.proofs.Unambiguous.{permitted-unambiguous}
@@ -41,9 +44,10 @@ use Rattle.grammar.proofs.Rules as Rules
 use Rattle.grammar.proofs.BlankRules as BlankRules
 use Rattle.grammar.proofs.ReservedRoles as ReservedRoles
 use Rattle.reader.specs.declared.Answer.{Answer}
-use Rattle.reader.specs.Answered.{written, Reads, Canonicalizes}
-use Rattle.reader.specs.Demands.{RightAnswer, TableFits, BufferFits, TableHolds, BufferHolds, RightReading, RightCanonical, OnlyReading, OnlyCanonical, Canonicalized}
+use Rattle.reader.specs.Answered.{written, Reads, Canonicalizes, nodeWritten, WritesName}
+use Rattle.reader.specs.Demands.{RightAnswer, TableFits, BufferFits, TableHolds, BufferHolds, RightReading, RightCanonical, OnlyReading, OnlyCanonical, Canonicalized, NameWritten}
 use Rattle.reader.proofs.ReadCalls as ReadCalls
+use Rattle.reader.proofs.NameCalls as NameCalls
 use Rattle.reader.proofs.CanonicalCalls as CanonicalCalls
 use Rattle.reader.proofs.BlankCalls as BlankCalls
 use Rattle.reader.proofs.Settled as Settled
@@ -158,6 +162,35 @@ pub same-precedences :
     (f : Fixity) (a : Associativity) (m d e : Bytes) → isNumber d ≡ true → isNumber e ≡ true
     → (value d ≡ value e) ↔ (stripDeclaration (declares f a d m) ≡ stripDeclaration (declares f a e m))
 same-precedences = StripDeclarations.same-precedences
+
+-- Document 02, §5: "Inside a quoted name, two quotes in a row now stand for one quote character." What is written for a name reads back to it,
+-- whatever its characters: every token, so every quoted name, is what its spelling spells. (No text spells another: `one-spelling`.)
+pub token-read-back : (t : Token) → isToken t ≡ true → Spells (spelling t) (t ∷ [])
+token-read-back = Scanned.token-spelled
+
+pub one-spelling : (text : Bytes) (ts us : List Token) → Spells text ts → Spells text us → ts ≡ us
+one-spelling text ts us h g = Scanned.spells-unique h g
+
+-- Two names have the same characters exactly if their bytes as written, without the outer quotes, are the same, bare or quoted: the bytes as
+-- written are the characters with each quote doubled, which a bare name does not have. (So with numbers and operators.)
+pub same-names :
+    (a b : Atom) → isToken (atom a) ≡ true → isToken (atom b) ≡ true → (characters a ≡ characters b) ↔ (asWritten a ≡ asWritten b)
+same-names = Names.written-alike
+
+-- So comparing the parts of two texts that two nodes give (`nodeWritten` is what `characters` hands out; `tree-held` says what it is) tells
+-- names apart by characters, although a name's characters are not always a part of the text.
+pub parts-compared :
+    (text : Bytes) (N N′ : List ℕ) (a : Answer) → Reads text N N′ a → a .number ≡ 0 → (t : Tree) → ReadingOf text t → (k : ℕ) (x : Atom)
+    → getD (nodeAtoms t) k none ≡ some x
+    → (other : Bytes) (M M′ : List ℕ) (b : Answer) → Reads other M M′ b → b .number ≡ 0 → (u : Tree) → ReadingOf other u → (l : ℕ) (y : Atom)
+    → getD (nodeAtoms u) l none ≡ some y → (nodeWritten text N′ k ≡ nodeWritten other M′ l) ↔ (characters x ≡ characters y)
+parts-compared = NameCalls.parts-compared
+
+-- `WritesName text N k B B′ r` is the promise of `write_name` for the node k of any table. Of a text that was read it writes the characters.
+pub name-written :
+    (text : Bytes) (N N′ : List ℕ) (a : Answer) → Reads text N N′ a → a .number ≡ 0 → (t : Tree) → ReadingOf text t → (k : ℕ) (x : Atom)
+    → getD (nodeAtoms t) k none ≡ some x → (B B′ : List ℕ) (r : Answer) → WritesName text N′ k B B′ r → NameWritten x B B′ r
+name-written = NameCalls.name-written
 
 -- Document 02, §6: "the sixth is the level at which it was read, and 0 for names, numbers, brackets and blocks. .. It must equal the level of the
 -- mark's role in the table in force there." Of every node of every text that is read: an operator's node has the precedence of the role of its

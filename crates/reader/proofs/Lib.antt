@@ -2,9 +2,11 @@ pub mod Reading
 pub mod Writing
 pub mod Serving
 pub mod Fits
+pub mod NameWriting
 pub mod NodeCharacters
 pub mod Calls
 pub mod ReadCalls
+pub mod NameCalls
 pub mod CanonicalCalls
 pub mod BlankCalls
 pub mod Settled

@@ -79,7 +79,7 @@ module _ (text : Bytes) (N N′ : List ℕ) (r : Reading) (e : readText text ≡
             (token-at text (r .tokens) (h .scanned) i (offsetOf text (r .tokens) i)
             (omega (arith, ap length (is .tokens), length-tokens (r .tokens))) .1 refl);
         written = rw w (subst (λ n. take n (readingWords text r ++ v) ≡ readingWords text r) size (take-append-seam (readingWords text r) v));
-        characters = NodeCharacters.node-characters text r h is N N′ w;
+        parts = NodeCharacters.node-written text r h is N N′ w;
         declarations = NodeCharacters.node-blocks text r h is N N′ w;
         precedences =
             λ k l.

@@ -40,7 +40,11 @@ pub record Serves (canonical : Bool) (text : Bytes) (table table′ buffer buffe
   pub reading : canonical ≡ false → Reads text table table′ a × (buffer′ ≡ buffer)
   pub writing : canonical ≡ true → Canonicalizes text buffer buffer′ a × (table′ ≡ table)
 
--- "Offset and length give the name's characters, the number's digits or the operator's mark": the part of the text that node number
--- `i` gives. "words past the last whole node are no part of it": a node that is not whole gives nothing.
-unfoldable pub nodeCharacters : Bytes → List ℕ → ℕ → Bytes
-nodeCharacters text table i = elim (leb (i * wordsPerNode + wordsPerNode) (length table)) [ true ↦ partOf text table i | false ↦ [] ]
+-- The part of the text that node number `i` gives, as written: "Offset and length cover the bytes as written between the outer quotes, and these
+-- are handed out" (02, §5). "words past the last whole node are no part of it": a node that is not whole gives nothing.
+unfoldable pub nodeWritten : Bytes → List ℕ → ℕ → Bytes
+nodeWritten text table i = elim (leb (i * wordsPerNode + wordsPerNode) (length table)) [ true ↦ partOf text table i | false ↦ [] ]
+
+-- Writing the characters of the name at node number `i`: the text, the node table, the buffer before and after, the answer.
+abbrev pub WritesName : Bytes → List ℕ → ℕ → List ℕ → List ℕ → Answer → Type 0
+WritesName text table i buffer buffer′ a = resultOf a buffer′ ≡ G.writeName (nodeWritten text table i) buffer

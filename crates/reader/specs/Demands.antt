@@ -6,7 +6,7 @@ use mathlib.Core.Option.{none, some}
 use Prim.Native.Nat.{ℕ, _*_, _≤_, _<_}
 use lib.ListN.{length, take, drop, getD}
 use Rattle.grammar.specs.Bytes.{Bytes}
-use Rattle.grammar.specs.Token.{Token}
+use Rattle.grammar.specs.Token.{Token, Atom, characters, asWritten}
 use Rattle.grammar.specs.Declaration.{Declaration, startTable}
 use Rattle.grammar.specs.Spelling.{Spells, TokenAt}
 use Rattle.grammar.specs.Tree.{Tree, flat}
@@ -14,9 +14,10 @@ use Rattle.grammar.specs.Nodes.{count, words, wordsPerNode}
 use Rattle.grammar.specs.Fault.{Rules, current, longestText, BeforeEleven, FaultUnder, PastUnder}
 use Rattle.grammar.specs.Decoding.{decodeTable, Ordered, Together}
 use Rattle.grammar.specs.NodePrecedence.{NodePrecedence}
-use Rattle.grammar.specs.Claim.{nodeNames, nodeBlocks, FromLetToIn, FirstWithout, ReadingUnder, ReadingOf, canonicalBytes}
+use Rattle.grammar.specs.Answer.{over}
+use Rattle.grammar.specs.Claim.{nodeAtoms, nodeBlocks, FromLetToIn, FirstWithout, ReadingUnder, ReadingOf, canonicalBytes}
 use Rattle.reader.specs.declared.Answer.{Answer}
-use Rattle.reader.specs.Answered.{nodeCharacters, Canonicalizes}
+use Rattle.reader.specs.Answered.{refusedWith, written, nodeWritten, Canonicalizes}
 
 -- Demand 1, of a service whose own refusal has the number `own` and is given where a tree does not fit. `B` is the lent buffer before the
 -- call, `B′` after it. The rules that documents 01 and 02 set (`Rules`) are a parameter.
@@ -63,13 +64,20 @@ pub record TableHolds (text : Bytes) (N N′ : List ℕ) (c : ℕ) (t : Tree) : 
   pub offsets : ℕ → ℕ
   pub begins : (i : ℕ) → i ≤ length (flat t) → TokenAt text (flat t) i (offsets i)
   pub written : take (wordsPerNode * c) N′ ≡ words offsets startTable t 0 0
-  -- "Offset and length give the name's characters, the number's digits or the operator's mark; .. a block has `let` to `in` inclusive."
-  pub characters : (k : ℕ) (s : Bytes) → getD (nodeNames t) k none ≡ some s → nodeCharacters text N′ k ≡ s
-  pub declarations : (k : ℕ) (ds : List Declaration) → getD (nodeBlocks t) k none ≡ some ds → FromLetToIn ds (nodeCharacters text N′ k)
+  -- "Offset and length give .. the number's digits or the operator's mark", and of a name "the bytes as written between the outer quotes"
+  -- (02, §5); "a block has `let` to `in` inclusive."
+  pub parts : (k : ℕ) (a : Atom) → getD (nodeAtoms t) k none ≡ some a → nodeWritten text N′ k ≡ asWritten a
+  pub declarations : (k : ℕ) (ds : List Declaration) → getD (nodeBlocks t) k none ≡ some ds → FromLetToIn ds (nodeWritten text N′ k)
   -- 02, §6: "the sixth is the level at which it was read, and 0 for names, numbers, brackets and blocks".
   pub precedences : (k : ℕ) → k < c → NodePrecedence text (flat t) N′ k
   -- "Words beyond the nodes keep their contents."
   pub behind : drop (wordsPerNode * c) N′ ≡ drop (wordsPerNode * c) N
+
+-- 02, §5: what a call answers and leaves that writes the characters of a name, number or operator into the buffer `B`: their count; or 13 where
+-- the buffer is too short, and then no byte changes.
+pub record NameWritten (a : Atom) (B B′ : List ℕ) (r : Answer) : Type 0 where
+  pub fits : length (characters a) ≤ length B → (r ≡ written (length (characters a))) × (B′ ≡ over (characters a) B)
+  pub tooShort : length B < length (characters a) → (r ≡ refusedWith 13 0) × (B′ ≡ B)
 
 -- What the buffer holds of the canonical text of the tree `t` where `c` bytes were counted.
 pub record BufferHolds (B B′ : List ℕ) (c : ℕ) (t : Tree) : Type 0 where

@@ -1,4 +1,5 @@
-// The two services: any bytes in; a node table, or canonical text, or a numbered refusal out.
+// The services: any bytes in; a node table, or canonical text, or a numbered refusal out. And for a node of the table its part of the text, or
+// the characters of its name.
 use canonical_text::pieces;
 use checks::Checked;
 use nodes::build;
@@ -7,7 +8,7 @@ ghost use mathlib.Core.Path.{_≡_};
 ghost use Rattle.checks.specs.Checking.{Checkable};
 ghost use mathlib.Core.List.{List};
 ghost use Prim.Native.Nat.{ℕ};
-ghost use Rattle.reader.specs.Answered.{refusedWith, written, Reads, Canonicalizes, Serves, nodeCharacters};
+ghost use Rattle.reader.specs.Answered.{refusedWith, written, Reads, Canonicalizes, Serves, nodeWritten, WritesName};
 ghost use Rattle.reader.specs.Found.{Found};
 
 pub const MAX_BYTES: usize = 16384;
@@ -192,10 +193,10 @@ pub fn canonicalize(text: &[u8], buffer: &mut [u8]) -> Answer
     serve(text, true, &mut nodes, buffer)
 }
 
-// The part of the text that node number `i` gives: a name's characters without quotes, a number's digits, an operator. Nothing if the table
-// does not have the whole node.
+// The part of the text that node number `i` gives: a name as written, without the outer quotes; a number's digits; an operator. Nothing if
+// the table does not have the whole node.
 pub fn characters<'a>(text: &'a [u8], nodes: &[u32], i: usize) -> &'a [u8]
-    ensures { λ r. ⌜ now r ≡ nodeCharacters (now (text .entry)) (now (nodes .entry)) i ⌝ }
+    ensures { λ r. ⌜ now r ≡ nodeWritten (now (text .entry)) (now (nodes .entry)) i ⌝ }
 {
     if nodes.len() <= i {
         return byte_strings::cut(text, 0, 0);
@@ -207,4 +208,18 @@ pub fn characters<'a>(text: &'a [u8], nodes: &[u32], i: usize) -> &'a [u8]
     let at = nodes[w + 3] as usize;
     let n = nodes[w + 4] as usize;
     byte_strings::cut(text, at, n)
+}
+
+// Writes the characters of the name at node number `i` over the front of a lent buffer: the same bytes, with one quote for each pair. A
+// refusal, 13 for a buffer that is too short, changes no byte.
+pub fn write_name(text: &[u8], nodes: &[u32], i: usize, buffer: &mut [u8]) -> Answer
+    ensures { λ r. ⌜ WritesName (now (text .entry)) (now (nodes .entry)) i (now (buffer .entry)) (now (buffer .exit)) r ⌝ }
+{
+    let part = characters(text, nodes, i);
+    let count = names::count(part);
+    if buffer.len() < count {
+        return refused(BUFFER_TOO_SHORT, 0);
+    }
+    names::write(part, buffer);
+    success(count)
 }

@@ -1,5 +1,5 @@
 -- The class of a token by its kind: each law takes the tests up to the one that holds. What a class says of the first token of an item,
--- and where its characters stand.
+-- and where its bytes stand.
 use mathlib.Core.Path.{_≡_, refl, sym, ap, subst, _∙_}
 use mathlib.Core.Logic.{_⊎_, inl, inr}
 use mathlib.Core.List.{List}
@@ -9,11 +9,12 @@ use lib.ListN.{length, take, drop}
 use borrow.Author.Tests.{eq-eqb, ne-eqb}
 use Rattle.grammar.specs.Bytes.{Bytes}
 use Rattle.grammar.specs.Operator.{Table}
+use Rattle.grammar.proofs.Doubling.{IsDoubled}
 use Rattle.grammar.proofs.Logic.{below}
 use Rattle.rows.specs.Fields.{kind, start, size, closer, Within}
-use Rattle.rows.specs.Tokens.{charactersOf, Paired, done, single, bracket, block}
+use Rattle.rows.specs.Tokens.{writtenOf, Paired, done, single, bracket, block}
 use Rattle.rows.proofs.Fields.{within}
-use Rattle.rows.proofs.Stored.{part-ends, stored-sized, stored-characters, part-characters}
+use Rattle.rows.proofs.Stored.{part-ends, stored-sized, stored-doubled, stored-written, part-written}
 use Rattle.operators.specs.Entries.{codedFind, IsName}
 use Rattle.operators.specs.declared.table.Found.{Found}
 use Rattle.operators.specs.declared.table.Found.the-variants.{At, Nothing}
@@ -27,7 +28,7 @@ module _ (text : Bytes) (K : List ℕ) (i : ℕ) (W : List ℕ) (count : ℕ) wh
   class = codedClass text K i W count
 
   abbrev finds : Found
-  finds = codedFind text W (charactersOf text K i) 0 count
+  finds = codedFind text W (writtenOf text K i) 0 count
 
   -- A word or sign: what the search of its name finds.
   class-symbol : kind K i ≡ 1 → class ≡ foundClass (start K i) (size K i) finds
@@ -99,7 +100,7 @@ module _ (text : Bytes) (K : List ℕ) (i : ℕ) (W : List ℕ) (count : ℕ) wh
   pub found-says : {to : ℕ} → Paired K i to → i < to → (x : Class) → x ≡ class → Says x
   found-says p l x e = subst Says (sym e) (class-says p l)
 
--- A token of a range stands in both rows, and its characters in the text.
+-- A token of a range stands in both rows, and its bytes in the text.
 module _ {text : Bytes} {K R : List ℕ} {i to : ℕ} (g : Ranged text K R i to) (l : i < to) where
   pub stands : i < length (g .placed)
   stands = omega (arith, g .within)
@@ -113,12 +114,15 @@ module _ {text : Bytes} {K R : List ℕ} {i to : ℕ} (g : Ranged text K R i to)
   pub part-within : {s n : ℕ} → s ≡ start K i → n ≡ size K i → s + n ≤ length text
   part-within a b = part-ends (g .stored) i stands a b
 
-  pub part-is : {s n : ℕ} → s ≡ start K i → n ≡ size K i → take (s + n - s) (drop s text) ≡ charactersOf text K i
-  part-is a b = part-characters text K i a b
+  pub part-is : {s n : ℕ} → s ≡ start K i → n ≡ size K i → take (s + n - s) (drop s text) ≡ writtenOf text K i
+  part-is a b = part-written text K i a b
+
+  pub part-doubled : kind K i ≡ 3 → IsDoubled (writtenOf text K i)
+  part-doubled = stored-doubled (g .stored) i stands
 
   pub part-named : {s n : ℕ} → s ≡ start K i → n ≡ size K i → kind K i ≤ 3 → IsName (take (s + n - s) (drop s text))
   part-named a b k =
-      rw (part-is a b) (omega (arith, stored-characters (g .stored) i stands, stored-sized (g .stored) i stands k))
+      rw (part-is a b) (omega (arith, stored-written (g .stored) i stands, stored-sized (g .stored) i stands k))
 
 -- A name is quoted or no operator.
 pub name-kind : {X : Type 0} {k : ℕ} → ((k ≡ 1) × X) ⊎ (k ≡ 3) → k ≤ 3

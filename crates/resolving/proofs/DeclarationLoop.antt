@@ -23,10 +23,10 @@ use Rattle.grammar.specs.Blocks.{bodyTable, checkBlocks}
 use Rattle.grammar.proofs.Declarations.{enter-sound}
 use Rattle.rows.specs.Fields.{kind, start, size, Holds}
 use Rattle.rows.specs.Codes.{Bounded}
-use Rattle.rows.specs.Tokens.{charactersOf, range, structureSize, Stored}
+use Rattle.rows.specs.Tokens.{writtenOf, range, structureSize, Stored}
 use Rattle.rows.specs.Agreeing.{Agrees}
 use Rattle.rows.proofs.Ranges.{token-structure, length-range}
-use Rattle.rows.proofs.Stored.{stored-within, stored-sized, stored-sizes, stored-characters, stored-ascend, stored-end}
+use Rattle.rows.proofs.Stored.{stored-within, stored-sized, stored-short, stored-written, stored-ascend, stored-end}
 use Rattle.operators.specs.Entries.{codedFind, hashOf, tableOf, Sound, IsName, Declarable, Declared, Cleared}
 use Rattle.operators.specs.declared.table.Found.{Found}
 use Rattle.operators.specs.declared.table.Found.the-variants.{At, Nothing}
@@ -139,17 +139,17 @@ module _
     {text : Bytes} {K : List ℕ} {T : G.Table} {i c : ℕ} {t : Table} {passes : Bool} {place at : ℕ} (inv : Entering text K T i c t passes place at)
   where
     module _ {j : ℕ} (l : j < length (inv .placed)) (k : kind K j ≡ 1) {o n : ℕ} (a : o ≡ start K j) (b : n ≡ size K j) where
-      name-characters : take n (drop o text) ≡ charactersOf text K j
-      name-characters = rw (a, b)
+      name-written : take n (drop o text) ≡ writtenOf text K j
+      name-written = rw (a, b)
 
       name-ends : o + n ≤ length text
       name-ends = omega (arith, stored-within (inv .stored) j l)
 
       name-sized : (1 ≤ n) × (n ≤ 63)
-      name-sized = omega (arith, stored-sized (inv .stored) j l (omega arith), stored-sizes (inv .stored) j l)
+      name-sized = omega (arith, stored-sized (inv .stored) j l (omega arith), stored-short (inv .stored) j l (λ e. omega arith))
 
       is-name : IsName (take n (drop o text))
-      is-name = rw name-characters (omega (arith, stored-characters (inv .stored) j l, name-sized .0))
+      is-name = rw name-written (omega (arith, stored-written (inv .stored) j l, name-sized .0))
 
       name-places : (o ≤ 65535) × (n ≤ 65535) × (nextPlace text o n ≤ 65535)
       name-places =
@@ -182,13 +182,13 @@ module _
     -- A declaration of a reserved operator.
     reserved-stops :
         {change : G.Table → G.Table} {k n : ℕ} → DeclarationAt text K c (inv .placed) at change k n
-        → isReserved (charactersOf text K (at + k)) ≡ true → answer text K T i c ≡ refused 17 (at + k)
+        → isReserved (writtenOf text K (at + k)) ≡ true → answer text K T i c ≡ refused 17 (at + k)
     reserved-stops step r = inv .answered ∙ step .reserves operators r
 
     -- Another declaration is passed over: the operators are those that it leaves in force.
     passed-over :
         {change : G.Table → G.Table} {k n : ℕ} → DeclarationAt text K c (inv .placed) at change k n
-        → isReserved (charactersOf text K (at + k)) ≡ false → (u : Table) → Sound text u → tableOf text u ≡ change operators
+        → isReserved (writtenOf text K (at + k)) ≡ false → (u : Table) → Sound text u → tableOf text u ≡ change operators
         → (still : Bool) → (still ≡ true → permitted (tableOf text u) ≡ true)
         → {next : ℕ} → next ≡ nextPlace text (nextPlace text (start K (at + k)) (size K (at + k))) 1
         → Entering text K T i c u still next (at + n)
@@ -220,8 +220,8 @@ module _
       there : at + 3 < length (inv .placed)
       there = omega (arith, role .step .within, inv .within)
 
-      is-characters : name ≡ charactersOf text K (at + 3)
-      is-characters = name-characters there (role .step .isSymbol) (role .stands) b
+      is-written : name ≡ writtenOf text K (at + 3)
+      is-written = name-written there (role .step .isSymbol) (role .stands) b
 
       pub role-name : IsName name
       role-name = is-name there (role .step .isSymbol) (role .stands) b
@@ -230,7 +230,7 @@ module _
       role-places = name-places there (role .step .isSymbol) (role .stands) b
 
       pub role-reserved : isReserved name ≡ true → answer text K T i c ≡ refused 17 (at + 3)
-      role-reserved r = reserved-stops (role .step) (rw is-characters at r)
+      role-reserved r = reserved-stops (role .step) (rw is-written at r)
 
       -- What is found of its name.
       module _ (found : Found) (looked : found ≡ codedFind text (t .words) name 0 (t .count)) where
@@ -243,7 +243,7 @@ module _
             go Nothing e z =
                 let many = unfound-count text t name (sym looked ∙ e) (fixityOf f) (role .declared) in
                 let full = leb-true mostOperators (t .count) z in
-                inv .answered ∙ role .step .refuses operators (rw is-characters at free) (rw (← is-characters) (omega arith))
+                inv .answered ∙ role .step .refuses operators (rw is-written at free) (rw (← is-written) (omega arith))
 
         pub declarable : {hash : ℕ} → (hash ≡ hashOf name) × (hash < 128) → isFull (t .count) found ≡ false → Declarable text t found o n hash f code
         unfolding isFull
@@ -265,7 +265,7 @@ module _
             → {next : ℕ} → next ≡ nextPlace text (nextPlace text o n) 1 → Entering text K T i c u still next (at + 5)
         declared-over free u d still m e =
             let table = d .table (role .declared) (role .coded) in
-            passed-over (role .step) (rw is-characters at free) u (d .sound) (table ∙ ap (λ w. declareRole w (fixityOf f) (role .declared) operators) is-characters) still
+            passed-over (role .step) (rw is-written at free) u (d .sound) (table ∙ ap (λ w. declareRole w (fixityOf f) (role .declared) operators) is-written) still
             (λ z. rw table
             (declared-permitted name (fixityOf f) (role .declared) operators (inv .meets (m z .0))
             (unfound-role text t name (sym looked ∙ new-found found (m z .1)))))
@@ -276,8 +276,8 @@ module _
       behind : at + 1 < length (inv .placed)
       behind = omega (arith, clears .step .within, inv .within)
 
-      cleared-characters : take n (drop o text) ≡ charactersOf text K (at + 1)
-      cleared-characters = name-characters behind (clears .step .isSymbol) (clears .stands) b
+      cleared-written : take n (drop o text) ≡ writtenOf text K (at + 1)
+      cleared-written = name-written behind (clears .step .isSymbol) (clears .stands) b
 
       pub cleared-name : IsName (take n (drop o text))
       cleared-name = is-name behind (clears .step .isSymbol) (clears .stands) b
@@ -286,13 +286,13 @@ module _
       cleared-places = name-places behind (clears .step .isSymbol) (clears .stands) b
 
       pub cleared-reserved : isReserved (take n (drop o text)) ≡ true → answer text K T i c ≡ refused 17 (at + 1)
-      cleared-reserved r = reserved-stops (clears .step) (rw cleared-characters at r)
+      cleared-reserved r = reserved-stops (clears .step) (rw cleared-written at r)
 
       pub cleared-over :
           isReserved (take n (drop o text)) ≡ false → (u : Table) → Cleared text t (take n (drop o text)) u
           → {next : ℕ} → next ≡ nextPlace text (nextPlace text o n) 1 → Entering text K T i c u passes next (at + 3)
       cleared-over free u d e =
-          passed-over (clears .step) (rw cleared-characters at free) u (d .sound) (d .table ∙ ap (λ w. removeRoles w operators) cleared-characters) passes
+          passed-over (clears .step) (rw cleared-written at free) u (d .sound) (d .table ∙ ap (λ w. removeRoles w operators) cleared-written) passes
           (λ z. rw (d .table) (cleared-permitted _ operators (inv .meets z)))
           (e ∙ ap₂ (λ p s. nextPlace text (nextPlace text p s) 1) (clears .stands) b)
 

@@ -44,7 +44,7 @@ use Rattle.grammar.proofs.Declarations.{declaration-sound, enter-end, enter-res
 use Rattle.grammar.proofs.EnterBehind.{enter-fuel, enter-unfit}
 use Rattle.rows.specs.Fields.{kind, start, size}
 use Rattle.rows.specs.Codes.{sideCode, roleCode, roleOf, IsRole}
-use Rattle.rows.specs.Tokens.{charactersOf, tokenIn, atomOf, atomIn, range, sizeOf, structureSize, Stored}
+use Rattle.rows.specs.Tokens.{writtenOf, tokenIn, atomOf, atomIn, range, sizeOf, structureSize, Stored}
 use Rattle.rows.proofs.Codes.{role-code, code-role}
 use Rattle.rows.proofs.Ranges.{token-atom, length-range, range-none, range-split, range-token}
 use Rattle.rows.proofs.Stored.{stored-kind, stored-size, stored-offset, stored-next}
@@ -53,17 +53,17 @@ use Rattle.declaration_part.specs.declared.parse.Parsed.{Parsed}
 use Rattle.declaration_part.specs.declared.parse.Parsed.the-variants.{Unfit, Clears}
 use Rattle.declaration_part.specs.declared.parse.Parsed.the-variants as P
 
--- A token of a text by what it is: its kind and its characters, or how many bytes it has.
+-- A token of a text by what it is: its kind and its bytes, or how many bytes it has.
 module _ {text : Bytes} {ps : List Placed} {K : List ℕ} (v : Stored text ps K) (j : ℕ) (h : j < length ps) where
   pub symbol-kind : (m : Bytes) → tokenIn text K j ≡ atom (symbol m) → kind K j ≡ 1
   unfolding kindOf
   symbol-kind m e = stored-kind v j h ∙ ap kindOf e
 
-  symbol-name : (m : Bytes) → tokenIn text K j ≡ atom (symbol m) → charactersOf text K j ≡ m
+  symbol-name : (m : Bytes) → tokenIn text K j ≡ atom (symbol m) → writtenOf text K j ≡ m
   unfolding atomIn atomOf
   symbol-name m e =
       let k = symbol-kind m e in
-      let a : atomIn text K j ≡ symbol (charactersOf text K j) = rw k in
+      let a : atomIn text K j ≡ symbol (writtenOf text K j) = rw k in
       let t : tokenIn text K j ≡ atom (atomIn text K j) = token-atom text K j (omega arith) in
       cc
 
@@ -130,12 +130,12 @@ module _ (text : Bytes) (K : List ℕ) (to : ℕ) where
     pub within : at + n ≤ to
     pub isSymbol : kind K (at + place) ≡ 1
     pub behind : nextPlace text (nextPlace text (start K (at + place)) (size K (at + place))) 1 ≡ offsetOf text ps (at + n)
-    pub reserves : (T : Table) → isReserved (charactersOf text K (at + place)) ≡ true → entered T at ≡ refused 17 (at + place)
+    pub reserves : (T : Table) → isReserved (writtenOf text K (at + place)) ≡ true → entered T at ≡ refused 17 (at + place)
     pub refuses :
-        (T : Table) → isReserved (charactersOf text K (at + place)) ≡ false → mostOperators < length (change T)
+        (T : Table) → isReserved (writtenOf text K (at + place)) ≡ false → mostOperators < length (change T)
         → entered T at ≡ refused 9 (at + place)
     pub passes :
-        (T : Table) → isReserved (charactersOf text K (at + place)) ≡ false → length (change T) ≤ mostOperators
+        (T : Table) → isReserved (writtenOf text K (at + place)) ≡ false → length (change T) ≤ mostOperators
         → entered T at ≡ entered (change T) (at + n)
 
   module _ (ps : List Placed) (v : Stored text ps K) (h : to < length ps) (at : ℕ) (l : at < to) where
@@ -170,7 +170,7 @@ module _ (text : Bytes) (K : List ℕ) (to : ℕ) where
           ∙ token-at (suc place) (omega (arith, within, operator-second d))
           ∙ semicolon-token d rest
 
-      operator-name : charactersOf text K (at + place) ≡ operatorOf d
+      operator-name : writtenOf text K (at + place) ≡ operatorOf d
       operator-name = symbol-name v (at + place) (omega (arith, within, operator-second d)) (operatorOf d) named
 
       operator-kind : kind K (at + place) ≡ 1
@@ -190,15 +190,15 @@ module _ (text : Bytes) (K : List ℕ) (to : ℕ) where
           ∙ begins-behind v (suc (at + place)) b (λ x y. omega (arith, z .0)) (sym (z .1))
           ∙ ap (offsetOf text ps) (omega arith)
 
-      -- The checks at this declaration, by the characters of its operator.
+      -- The checks at this declaration, by the bytes of its operator.
       fuelled : (T : Table) → entered T at ≡ enter (suc (to - suc at)) T at (range text K at to)
       fuelled T = let k : to - at ≡ suc (to - suc at) = omega arith in ap (λ k. enter k T at (range text K at to)) k
 
-      reserved-step : (T : Table) → isReserved (charactersOf text K (at + place)) ≡ true → entered T at ≡ refused 17 (at + place)
+      reserved-step : (T : Table) → isReserved (writtenOf text K (at + place)) ≡ true → entered T at ≡ refused 17 (at + place)
       reserved-step T r = fuelled T ∙ enter-reserved (to - suc at) T at (range text K at to) e (rw operator-name at r)
 
       step :
-          (T : Table) → isReserved (charactersOf text K (at + place)) ≡ false
+          (T : Table) → isReserved (writtenOf text K (at + place)) ≡ false
           → entered T at
           ≡ elim (hasRoom T d) [
             | true ↦ enter (to - suc at) (declare T d) (at + n) rest
@@ -243,7 +243,7 @@ module _ (text : Bytes) (K : List ℕ) (to : ℕ) where
       pub isRole : IsRole code × (0 < code)
       pub declared : Role
       pub coded : roleOf code ≡ some declared
-      pub step : DeclarationAt ps at (declareRole (charactersOf text K (at + 3)) (fixityOf f) declared) 3 5
+      pub step : DeclarationAt ps at (declareRole (writtenOf text K (at + 3)) (fixityOf f) declared) 3 5
 
     role-of :
         (f : Fixity) (a : Associativity) (w m : Bytes) (rest : List Token) → declaration (range text K at to) ≡ parsed (declares f a w m) rest
@@ -280,7 +280,7 @@ module _ (text : Bytes) (K : List ℕ) (to : ℕ) where
     -- .. and a name that is cleared.
     pub record ClearsAt (operator : ℕ) : Type 0 where
       pub stands : operator ≡ start K (at + 1)
-      pub step : DeclarationAt ps at (removeRoles (charactersOf text K (at + 1))) 1 3
+      pub step : DeclarationAt ps at (removeRoles (writtenOf text K (at + 1))) 1 3
 
     pub clears-at : (operator : ℕ) → Said (Clears operator) → ClearsAt operator
     unfolding declare operatorPlace declarationTokens operatorOf

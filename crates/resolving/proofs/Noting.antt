@@ -3,7 +3,7 @@ use mathlib.Core.Path.{_≡_, sym, ap}
 use mathlib.Core.List.{List}
 use Prim.Native.Nat.{ℕ}
 use Rattle.grammar.specs.Bytes.{Bytes}
-use Rattle.grammar.specs.Token.{symbol, quoted}
+use Rattle.grammar.specs.Token.{symbol, quoted, doubled}
 use Rattle.grammar.specs.Operator.{Fixity, Prefix, Infix, Postfix, role}
 use Rattle.grammar.specs.Operator as G
 use Rattle.grammar.specs.Climb.{firstRole}
@@ -35,9 +35,10 @@ module _ (R : List ℕ) (i : ℕ) (R′ : List ℕ) where
       unfolding rolesFor arrivalFor
       name-noted w = noted T R i R′ (symbol name) (no-code Prefix) (no-code Infix) (no-code Postfix) (rw no-arrival w)
 
-      pub unlisted-noted : WordsAt R i 0 0 0 0 R′ → NotedAt T R i (quoted name) R′
+      pub unlisted-noted : WordsAt R i 0 0 0 0 R′ → (c : Bytes) → name ≡ doubled c → NotedAt T R i (quoted c) R′
       unfolding rolesFor arrivalFor
-      unlisted-noted w = noted T R i R′ (quoted name) (no-code Prefix) (no-code Infix) (no-code Postfix) w
+      unlisted-noted w c e =
+          noted T R i R′ (quoted c) (rw e at (no-code Prefix)) (rw e at (no-code Infix)) (rw e at (no-code Postfix)) w
 
     -- An entry: it has the roles of the entry.
     module _ (k : ℕ) (h : codedFind text (t .words) name 0 (t .count) ≡ At k) (sound : Sound text t) where
@@ -56,6 +57,7 @@ module _ (R : List ℕ) (i : ℕ) (R′ : List ℕ) where
           let (a, b, c) = found-codes text t name h sound in
           noted T R i R′ (symbol name) a b c (rw (ap arrivalOf (found-roles text t name h)) w)
 
-      pub listed-noted : WordsAt R i p q s 0 R′ → NotedAt T R i (quoted name) R′
+      pub listed-noted : WordsAt R i p q s 0 R′ → (c : Bytes) → name ≡ doubled c → NotedAt T R i (quoted c) R′
       unfolding rolesFor arrivalFor
-      listed-noted w = let (a, b, c) = found-codes text t name h sound in noted T R i R′ (quoted name) a b c w
+      listed-noted w c e =
+          let (x, y, z) = found-codes text t name h sound in noted T R i R′ (quoted c) (rw e at x) (rw e at y) (rw e at z) w

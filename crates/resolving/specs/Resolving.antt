@@ -15,7 +15,7 @@ use Rattle.grammar.specs.Declaration.{mostOperators, enter, declarations, allTo
 use Rattle.grammar.specs.Blocks.{bodyTable, checkBlocks}
 use Rattle.rows.specs.Fields.{kind, start, size, closer, arrival, Holds}
 use Rattle.rows.specs.Codes.{Bounded}
-use Rattle.rows.specs.Tokens.{charactersOf, atomIn, range, IsAtomKind, IsQuietKind, Paired, Stored}
+use Rattle.rows.specs.Tokens.{writtenOf, atomIn, range, IsAtomKind, IsQuietKind, Paired, Stored}
 use Rattle.rows.specs.Agreeing.{KeptOutside, NotedAt, Agrees}
 use Rattle.operators.specs.Entries.{codedFind, tableBy, tableOf, Sound}
 use Rattle.operators.specs.declared.table.Found.{Found}
@@ -40,7 +40,7 @@ foundClass at n Nothing = Name at n
 unfoldable pub codedClass : Bytes → List ℕ → ℕ → List ℕ → ℕ → Class
 codedClass text K i W count =
     elim (eqb (kind K i) 1) [
-      | true ↦ foundClass (start K i) (size K i) (codedFind text W (charactersOf text K i) 0 count)
+      | true ↦ foundClass (start K i) (size K i) (codedFind text W (writtenOf text K i) 0 count)
       | false ↦
           elim (eqb (kind K i) 2) [
             | true ↦ Number

@@ -98,7 +98,7 @@ fn store_operator<'a>(roles: &mut [u16], i: usize, words: &'a [u16; 320], k: usi
     );
 }
 
-// What is noted of a name: nothing, or, if it is quoted, the roles that its characters have.
+// What is noted of a name: nothing, or, if it is quoted, the roles that its bytes as written have.
 fn store_name<'a>(
     text: &[u8],
     name: &[u8],

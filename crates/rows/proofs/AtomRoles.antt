@@ -7,7 +7,7 @@ use Prim.Native.Nat.{_≤_}
 use native.Mathlib.Omega.{arith}
 use lib.Dec.{eqb, eqb·suc-zero}
 use Rattle.grammar.specs.Bytes.{Bytes}
-use Rattle.grammar.specs.Token.{Atom, symbol, number, quoted}
+use Rattle.grammar.specs.Token.{Atom, symbol, number, quoted, doubled}
 use Rattle.grammar.specs.Operator.{Fixity, Prefix, Infix, Postfix, Role, Roles, Table, role, isSome, hasRole, inForce}
 use Rattle.grammar.specs.SpanTree.{SpanTree, missing, operand, apply, fixity, roleOfFixity, roleOver, root, isOperandAtom}
 use Rattle.grammar.specs.Climb.{firstRole}
@@ -19,7 +19,7 @@ pub roles-fit : (T : Table) → Bounded T → (a : Atom) (f : Fixity) → Fit (r
 unfolding rolesFor
 roles-fit T b (symbol w) f = b w f
 roles-fit T b (number d) f = tt
-roles-fit T b (quoted c) f = b c f
+roles-fit T b (quoted c) f = b (doubled c) f
 
 pub arrives-within : (T : Table) → Bounded T → (a : Atom) → arrivalFor T a ≤ 1201
 unfolding arrivalFor

@@ -1,6 +1,6 @@
 -- What is noted of an atom: the words that are stored at its token are the numbers of its roles under the operators of a table, and the
 -- rest of the row is kept. Which atom it is, its kind says.
-use mathlib.Core.Path.{_≡_, refl, _∙_}
+use mathlib.Core.Path.{_≡_, refl, sym, ap, subst, _∙_}
 use mathlib.Core.Logic.{_⊎_, inl, inr}
 use mathlib.Core.List.{List}
 use Prim.Native.Nat.{ℕ, suc, _≤_, _<_}
@@ -8,12 +8,13 @@ use native.Mathlib.Omega.{arith}
 use lib.Dec.{eqb}
 use borrow.Author.Tests.{eq-eqb, ne-eqb}
 use Rattle.grammar.specs.Bytes.{Bytes}
-use Rattle.grammar.specs.Token.{Atom, symbol, number, quoted}
+use Rattle.grammar.specs.Token.{Atom, symbol, number, quoted, undoubled}
 use Rattle.grammar.specs.Operator.{Prefix, Infix, Postfix}
 use Rattle.grammar.specs.Operator as G
+use Rattle.grammar.proofs.Doubling.{IsDoubled, undoubled-doubled}
 use Rattle.rows.specs.Fields.{field, store, kind, prefix, infixed, postfix, arrival, Within, withWords}
 use Rattle.rows.specs.Codes.{roleCode}
-use Rattle.rows.specs.Tokens.{charactersOf, atomOf, atomIn, IsAtomKind}
+use Rattle.rows.specs.Tokens.{writtenOf, atomOf, atomIn, IsAtomKind}
 use Rattle.rows.specs.Agreeing.{rolesFor, arrivalFor, Noted, KeptOutside, NotedAt, NameNoted}
 use Rattle.rows.proofs.Fields.{store-same, other-field, other-entry, store-length}
 
@@ -124,21 +125,24 @@ module _ (text : Bytes) (K : List ℕ) (T : G.Table) (R : List ℕ) (i : ℕ) (R
   abbrev pub NotedAtom : Type 0
   NotedAtom = IsAtomKind (kind K i) × NotedAt T R i (atomIn text K i) R′
 
-  pub symbol-item : kind K i ≡ 1 → NotedAt T R i (symbol (charactersOf text K i)) R′ → NotedAtom
+  pub symbol-item : kind K i ≡ 1 → NotedAt T R i (symbol (writtenOf text K i)) R′ → NotedAtom
   unfolding atomIn atomOf
   symbol-item e n = rw e (omega arith, n)
 
-  pub number-item : kind K i ≡ 2 → NotedAt T R i (number (charactersOf text K i)) R′ → NotedAtom
+  pub number-item : kind K i ≡ 2 → NotedAt T R i (number (writtenOf text K i)) R′ → NotedAtom
   unfolding atomIn atomOf
   number-item e n = rw e (omega arith, n)
 
-  pub quoted-item : kind K i ≡ 3 → NotedAt T R i (quoted (charactersOf text K i)) R′ → NotedAtom
+  pub quoted-item : kind K i ≡ 3 → NotedAt T R i (quoted (undoubled (writtenOf text K i))) R′ → NotedAtom
   unfolding atomIn atomOf
   quoted-item e n = rw e (omega arith, n)
 
   -- A name is quoted or no operator.
   pub name-item :
-      (NoOperator : Bytes → Type 0) {k : ℕ} {m : Bytes} → k ≡ kind K i → m ≡ charactersOf text K i
-      → ((kind K i ≡ 1) × NoOperator (charactersOf text K i)) ⊎ (kind K i ≡ 3) → NameNoted (eqb k 3) NoOperator T m R i R′ → NotedAtom
-  name-item P {k} e d (inl h) n = symbol-item (h .0) (rw (ne-eqb k 3 (λ z. omega (arith, h .0)), d) at n (h .1))
-  name-item P {k} e d (inr h) n = quoted-item h (rw (eq-eqb k 3 (e ∙ h), d) at n)
+      (NoOperator : Bytes → Type 0) {k : ℕ} {m : Bytes} → k ≡ kind K i → m ≡ writtenOf text K i
+      → ((kind K i ≡ 1) × NoOperator (writtenOf text K i)) ⊎ (kind K i ≡ 3) → (kind K i ≡ 3 → IsDoubled (writtenOf text K i))
+      → NameNoted (eqb k 3) NoOperator T m R i R′ → NotedAtom
+  name-item P {k} e d (inl h) w n = symbol-item (h .0) (rw (ne-eqb k 3 (λ z. omega (arith, h .0)), d) at n (h .1))
+  name-item P {k} e d (inr h) w n =
+      let (c, x) = w h in
+      quoted-item h (subst (λ b. NotedAt T R i (quoted b) R′) (sym (ap undoubled x ∙ undoubled-doubled c)) (rw (eq-eqb k 3 (e ∙ h), d) at n c x))

@@ -2,19 +2,17 @@
 -- Kinds 1 to 3 are those of atoms, and a kind of structure has one token.
 use mathlib.Core.Path.{_≡_, refl, ap, ap₂, _∙_}
 use mathlib.Core.List.{List, [], _∷_, _++_}
-use mathlib.Core.Bool.{Bool, true, false}
 use Prim.Native.Nat.{ℕ, zero, suc, _+_, _-_, _≤_, _<_}
 use native.Mathlib.Omega.{arith}
-use lib.Dec.{eqb}
 use lib.ListN.{length, getD}
 use Rattle.grammar.specs.Bytes.{Bytes}
-use Rattle.grammar.specs.Token.{Token, Structure, atom, structure, symbol, number, quoted, characters, structureNumber, opening, closing, keywordLet, keywordIn, keywordEnd}
+use Rattle.grammar.specs.Token.{Token, Structure, atom, structure, structureNumber, opening, closing, keywordLet, keywordIn, keywordEnd}
 use Rattle.grammar.specs.Span.{InDeclarations}
 use Rattle.grammar.specs.Coded.{kindOf, tokenOf}
 use Rattle.grammar.proofs.Items.{AllQuiet}
 use Rattle.grammar.proofs.Offsets.{structure-coded}
 use Rattle.rows.specs.Fields.{kind, start, size}
-use Rattle.rows.specs.Tokens.{tokenIn, atomOf, atomIn, tokensIn, range, charactersOf, IsAtomKind, IsQuietKind}
+use Rattle.rows.specs.Tokens.{tokenIn, atomOf, atomIn, tokensIn, range, writtenOf, IsAtomKind, IsQuietKind}
 
 -- The tokens of atom kinds are atoms ..
 atom-kind : (k : ℕ) (c : Bytes) → IsAtomKind k → tokenOf k c ≡ atom (atomOf k c)
@@ -24,18 +22,6 @@ atom-kind (suc zero) c h = refl
 atom-kind (suc (suc zero)) c h = refl
 atom-kind (suc (suc (suc zero))) c h = refl
 atom-kind (suc (suc (suc (suc k)))) c h = absurd (omega (arith, h .1))
-
-characters-of : (k : ℕ) (c : Bytes) → characters (atomOf k c) ≡ c
-unfolding atomOf characters
-characters-of k c = first (eqb k 1)
-  where
-    second : (b : Bool) → characters (elim b [ true ↦ number c | false ↦ quoted c ]) ≡ c
-    second true = refl
-    second false = refl
-
-    first : (b : Bool) → characters (elim b [ true ↦ symbol c | false ↦ elim (eqb k 2) [ true ↦ number c | false ↦ quoted c ] ]) ≡ c
-    first true = refl
-    first false = second (eqb k 2)
 
 -- .. and those of quiet kinds can stand among declarations.
 quiet-kind : (k : ℕ) (c : Bytes) → IsQuietKind k → InDeclarations (tokenOf k c)
@@ -52,12 +38,7 @@ quiet-kind (suc (suc (suc (suc (suc (suc (suc k))))))) c q = absurd (omega (arit
 module _ (text : Bytes) (K : List ℕ) where
   pub token-atom : (i : ℕ) → IsAtomKind (kind K i) → tokenIn text K i ≡ atom (atomIn text K i)
   unfolding tokenIn atomIn
-  token-atom i k = atom-kind (kind K i) (charactersOf text K i) k
-
-  -- An atom's characters are those of the row.
-  pub atom-characters : (i : ℕ) → characters (atomIn text K i) ≡ charactersOf text K i
-  unfolding atomIn
-  atom-characters i = characters-of (kind K i) (charactersOf text K i)
+  token-atom i k = atom-kind (kind K i) (writtenOf text K i) k
 
   -- A token of structure by its kind.
   pub token-structure : (i : ℕ) (s : Structure) → kind K i ≡ kindOf (structure s) → tokenIn text K i ≡ structure s
@@ -123,7 +104,7 @@ module _ (text : Bytes) (K : List ℕ) where
   unfolding tokensIn tokenIn
   are-quiet zero i f = tt
   are-quiet (suc n) i f = (
-    quiet-kind (kind K i) (charactersOf text K i) (f i (omega arith) (omega arith)),
+    quiet-kind (kind K i) (writtenOf text K i) (f i (omega arith) (omega arith)),
     are-quiet n (suc i) (λ j l m. f j (omega arith) (omega arith)),
   )
 

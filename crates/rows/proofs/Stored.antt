@@ -1,4 +1,4 @@
--- What a row holds that begins with the tokens of a text: each token with its kind and its characters, where the text has it.
+-- What a row holds that begins with the tokens of a text: each token with its kind and its bytes as written, where the text has it.
 -- The tokens of a scan stand at their offsets with blanks between them, so token number `j` of the row is read off the text there.
 use mathlib.Core.Path.{_≡_, refl, sym, ap, ap₂, subst, _∙_}
 use mathlib.Core.Bool.{true}
@@ -14,14 +14,15 @@ use Rattle.grammar.specs.Spelling.{Stops}
 use Rattle.grammar.specs.Scan.{Placed, run, front, taken}
 use Rattle.grammar.specs.Coded.{kindOf}
 use Rattle.grammar.specs.Answer.{tokensOf, startsOf, offsetOf}
+use Rattle.grammar.proofs.Doubling.{IsDoubled}
 use Rattle.grammar.proofs.Logic.{below}
 use Rattle.grammar.proofs.Runs.{run-append, front-spelled}
 use Rattle.grammar.proofs.Scanned.{scan-tokens, length-tokens, taken-not-blank}
 use Rattle.grammar.proofs.TextParts.{Here, Stand, Behind, offsets-behind, offsets-stand}
 use Rattle.rows.specs.Fields.{kind, start, size}
-use Rattle.rows.specs.Tokens.{charactersOf, tokenIn, range, placeOf, sizeOf, kindAt, placeAt, sizeAt, Stored}
+use Rattle.rows.specs.Tokens.{writtenOf, tokenIn, range, placeOf, sizeOf, kindAt, placeAt, sizeAt, Stored}
 use Rattle.rows.proofs.Ranges.{length-range, range-token}
-use Rattle.rows.proofs.TokenBytes.{kind-bounds, place-quoted, place-plain, token-ends, size-bound, size-atom, token-bytes, characters-within, place-within, token-read}
+use Rattle.rows.proofs.TokenBytes.{kind-bounds, place-quoted, place-plain, token-ends, size-bound, size-plain, size-atom, token-bytes, written-within, place-within, read-doubled, token-read}
 
 abbrev startAt : Placed → ℕ
 startAt p = p .start
@@ -100,7 +101,7 @@ module _ {text : Bytes} {ps : List Placed} {K : List ℕ} (v : Stored text ps K)
     pub stored-valid : isToken (tokenIn text K j) ≡ true
     stored-valid = stored-here .valid
 
-    -- It is token number `j` of the text, with its kind, the place of its characters and their number.
+    -- It is token number `j` of the text, with its kind, the place of its bytes and their number.
     pub stored-token : (d : Token) → getD (tokensOf ps) j d ≡ tokenIn text K j
     stored-token d = token .listed d ∙ sym read
 
@@ -113,24 +114,27 @@ module _ {text : Bytes} {ps : List Placed} {K : List ℕ} (v : Stored text ps K)
     pub stored-size : size K j ≡ sizeOf (tokenIn text K j)
     stored-size = size-placed ∙ ap sizeOf (sym read)
 
-    -- A quoted name's characters begin behind its quote, those of any other token at its offset.
+    -- The bytes of a quoted name begin behind its quote, those of any other token at its offset.
     pub stored-quoted : kind K j ≡ 3 → start K j ≡ suc (offsetOf text ps j)
     stored-quoted e = stored-place ∙ place-quoted (tokenIn text K j) (offsetOf text ps j) (sym stored-kind ∙ e)
 
     pub stored-offset : (kind K j ≡ 3 → ⊥) → start K j ≡ offsetOf text ps j
     stored-offset d = stored-place ∙ place-plain (tokenIn text K j) (offsetOf text ps j) (λ e. d (stored-kind ∙ e))
 
-    -- The kinds are those of tokens, and there are few characters, of an atom one at least.
+    -- The kinds are those of tokens, and there are few bytes, of an atom one at least.
     pub stored-kinds : (1 ≤ kind K j) × (kind K j ≤ 9)
     stored-kinds = omega (arith, stored-kind, kind-bounds (tokenIn text K j))
 
-    pub stored-sizes : size K j ≤ 63
+    pub stored-sizes : size K j ≤ 126
     stored-sizes = omega (arith, stored-size, size-bound (tokenIn text K j) stored-valid)
+
+    pub stored-short : (kind K j ≡ 3 → ⊥) → size K j ≤ 63
+    stored-short d = omega (arith, stored-size, size-plain (tokenIn text K j) stored-valid (λ e. d (stored-kind ∙ e)))
 
     pub stored-sized : kind K j ≤ 3 → 1 ≤ size K j
     stored-sized l = omega (arith, stored-size, size-atom (tokenIn text K j) stored-valid (omega (arith, stored-kind)))
 
-    -- A token ends within the text, and so its characters begin and end there.
+    -- A token ends within the text, and so its bytes begin and end there.
     pub spelled-within : offsetOf text ps j + length (spelling (tokenIn text K j)) ≤ length text
     spelled-within =
         omega (
@@ -143,7 +147,7 @@ module _ {text : Bytes} {ps : List Placed} {K : List ℕ} (v : Stored text ps K)
 
     pub stored-within : start K j + size K j ≤ length text
     stored-within =
-        omega (arith, stored-place, stored-size, characters-within (tokenIn text K j) (offsetOf text ps j), spelled-within)
+        omega (arith, stored-place, stored-size, written-within (tokenIn text K j) (offsetOf text ps j), spelled-within)
 
     pub stored-begins : start K j < length text
     stored-begins = omega (arith, stored-place, place-within (tokenIn text K j) (offsetOf text ps j) stored-valid, spelled-within)
@@ -155,8 +159,14 @@ module _ {text : Bytes} {ps : List Placed} {K : List ℕ} (v : Stored text ps K)
     pub part-ends : {s n : ℕ} → s ≡ start K j → n ≡ size K j → s + n ≤ length text
     part-ends a b = omega (arith, stored-within)
 
-    pub stored-characters : length (charactersOf text K j) ≡ size K j
-    stored-characters = simp (length-take, length-drop) (omega (arith, stored-within))
+    pub stored-written : length (writtenOf text K j) ≡ size K j
+    stored-written = simp (length-take, length-drop) (omega (arith, stored-within))
+
+    -- Those of a quoted name are its characters doubled.
+    pub stored-doubled : kind K j ≡ 3 → IsDoubled (writtenOf text K j)
+    stored-doubled e =
+        rw (stored-place, stored-size)
+        (read-doubled text (tokenIn text K j) (offsetOf text ps j) _ (stored-here .written) (sym stored-kind ∙ e))
 
     -- At its offset the scan finds it.
     spelled : front (spelling (tokenIn text K j) ++ (stored-here .gap ++ drop (offsetOf text ps (suc j)) text))
@@ -203,7 +213,7 @@ module _ {text : Bytes} {ps : List Placed} {K : List ℕ} (v : Stored text ps K)
         arith,
         stored-place i k,
         stored-size i k,
-        characters-within (tokenIn text K i) (offsetOf text ps i),
+        written-within (tokenIn text K i) (offsetOf text ps i),
         stored-apart i k,
         stored-ascend (suc i) j l h,
       )
@@ -269,10 +279,10 @@ module _ {text : Bytes} {ps : List Placed} {K : List ℕ} (v : Stored text ps K)
         (ap suc (ap₂ _+_ (stored-place j h) (stored-size j h))
         ∙ token-ends (tokenIn text K j) (offsetOf text ps j) .enclosed (omega (arith, stored-kind j h)) (omega (arith, stored-kind j h)))
 
--- The part of the text from where the characters of a token begin, as long as they are.
-pub part-characters :
-    (text : Bytes) (K : List ℕ) (j : ℕ) {s n : ℕ} → s ≡ start K j → n ≡ size K j → take (s + n - s) (drop s text) ≡ charactersOf text K j
-part-characters text K j {s} {n} a b = let e : s + n - s ≡ size K j = omega arith in rw (e, a)
+-- The part of the text from where the bytes of a token begin, as long as they are.
+pub part-written :
+    (text : Bytes) (K : List ℕ) (j : ℕ) {s n : ℕ} → s ≡ start K j → n ≡ size K j → take (s + n - s) (drop s text) ≡ writtenOf text K j
+part-written text K j {s} {n} a b = let e : s + n - s ≡ size K j = omega arith in rw (e, a)
 
 -- A row with the same kinds, places and sizes has the same tokens.
 pub stored-kept :

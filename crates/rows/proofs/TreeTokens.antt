@@ -1,12 +1,12 @@
 -- The tokens of a tree stand in the row: each subtree has a range of its own there, and what the row has of a token is what the text has of it.
-use mathlib.Core.Path.{_≡_, refl, sym, ap, subst, _∙_}
+use mathlib.Core.Path.{_≡_, refl, sym, ap, _∙_}
 use mathlib.Core.Bool.{Bool, true, false, _||_}
-use mathlib.Core.List.{List, [], _∷_, _++_}
+use mathlib.Core.List.{List, [], _∷_}
 use Prim.Native.Nat.{ℕ, suc, _+_, _≤_, _<_}
 use native.Mathlib.Omega.{arith}
 use lib.ListN.{length}
 use Rattle.grammar.specs.Bytes.{Bytes}
-use Rattle.grammar.specs.Token.{Atom, atom, symbol, characters}
+use Rattle.grammar.specs.Token.{Atom, atom, symbol, asWritten}
 use Rattle.grammar.specs.Operator.{Table}
 use Rattle.grammar.specs.Declaration.{declareAll, allTokens}
 use Rattle.grammar.specs.Scan.{Placed}
@@ -15,11 +15,11 @@ use Rattle.grammar.specs.Span as Span
 use Rattle.grammar.specs.SpanTree.{SpanTree, yield, present, fixity, fixityBy, roleOver, roleOfFixity, root, admitsBoth, Admitted}
 use Rattle.grammar.specs.Tree.{Tree, nothing, leaf, bracket, block, node, flat, spanTree, InnerOk}
 use Rattle.grammar.specs.Coded.{kindOf}
-use Rattle.grammar.specs.Answer.{Reading, tokensOf, offsetOf}
+use Rattle.grammar.specs.Answer.{Reading, offsetOf}
 use Rattle.grammar.proofs.Logic.{impossible}
 use Rattle.grammar.proofs.Items.{items-flat}
-use Rattle.rows.specs.Fields.{kind, start, size}
-use Rattle.rows.specs.Tokens.{tokenIn, atomIn, range, placeOf, sizeOf, Stored}
+use Rattle.rows.specs.Fields.{kind}
+use Rattle.rows.specs.Tokens.{tokenIn, range, placeOf, sizeOf, Stored}
 use Rattle.rows.specs.Agreeing.{Agrees}
 use Rattle.rows.specs.Standing.{Tokened}
 use Rattle.rows.specs.Reading.{Ready}
@@ -70,7 +70,7 @@ module _ {text : Bytes} {ps : List Placed} {K : List ℕ} (v : Stored text ps K)
   tokened :
       (t : Tree) {T : Table} {i to : ℕ} → Holding t → to ≤ length ps → Agrees text K R T i to → items (range text K i to) ≡ yield (spanTree t)
       → Tokened (offsetOf text ps) K i t
-  unfolding spanTree yield kindOf placeOf sizeOf characters
+  unfolding spanTree yield kindOf placeOf sizeOf asWritten
   tokened nothing g l p e = tt
   tokened (leaf a) {i = i} g l p e =
       let h = atom-here text K R p a [] e in

@@ -7,7 +7,7 @@ use mathlib.Core.Option.{none}
 use Prim.Native.Nat.{ℕ, suc, _≤_, _<_}
 use lib.ListN.{length}
 use Rattle.grammar.specs.Bytes.{Bytes}
-use Rattle.grammar.specs.Token.{Atom, symbol, number, quoted}
+use Rattle.grammar.specs.Token.{Atom, symbol, number, quoted, doubled}
 use Rattle.grammar.specs.Operator.{Prefix, Infix, Postfix, Roles, Table, role}
 use Rattle.grammar.specs.Declaration.{declarations, allTokens}
 use Rattle.grammar.specs.Blocks.{bodyTable}
@@ -15,11 +15,11 @@ use Rattle.rows.specs.Fields.{field, kind, closer, prefix, infixed, post
 use Rattle.rows.specs.Codes.{roleCode, arrivalOf, Bounded}
 use Rattle.rows.specs.Tokens.{atomIn, range, IsAtomKind, IsQuietKind}
 
--- The roles in force of a symbol, or of a quoted name's characters.
+-- The roles in force of a symbol, or of a quoted name's bytes as written: those are a symbol only where they are its characters.
 unfoldable pub rolesFor : Table → Atom → Roles
 rolesFor T (symbol w) f = role T w f
 rolesFor T (number d) f = none
-rolesFor T (quoted c) f = role T c f
+rolesFor T (quoted c) f = role T (doubled c) f
 
 -- What an atom is to the operators that wait when it comes: only a symbol can be an operator.
 unfoldable pub arrivalFor : Table → Atom → ℕ
@@ -44,9 +44,9 @@ pub record NotedAt (T : Table) (R : List ℕ) (i : ℕ) (a : Atom) (R′ : List 
   pub noted : Noted T R′ i a
   pub kept : KeptOutside R i (suc i) R′
 
--- So of a name: a quoted one, or one that is no operator.
+-- So of the bytes of a name: of a quoted one, or of one that is no operator.
 abbrev pub NameNoted : Bool → (Bytes → Type 0) → Table → Bytes → List ℕ → ℕ → List ℕ → Type 0
-NameNoted true NoOperator T name R i R′ = NotedAt T R i (quoted name) R′
+NameNoted true NoOperator T name R i R′ = (c : Bytes) → name ≡ doubled c → NotedAt T R i (quoted c) R′
 NameNoted false NoOperator T name R i R′ = NoOperator name → NotedAt T R i (symbol name) R′
 
 -- The tokens from number `i` to number `to` are paired, and the row has the roles of each item under the operators in force: within bracket

@@ -4,12 +4,12 @@ use mathlib.Core.Bool.{true, _||_}
 use mathlib.Core.List.{List}
 use Prim.Native.Nat.{ℕ, suc, _+_}
 use lib.ListN.{length}
-use Rattle.grammar.specs.Token.{atom, symbol, characters}
+use Rattle.grammar.specs.Token.{atom, symbol, asWritten}
 use Rattle.grammar.specs.Operator.{Fixity, Table, role}
 use Rattle.grammar.specs.Declaration.{declareAll, allTokens}
 use Rattle.grammar.specs.SpanTree.{present}
 use Rattle.grammar.specs.Tree.{Tree, nothing, leaf, bracket, block, node, flat, spanTree}
-use Rattle.grammar.specs.Nodes.{charactersOffset}
+use Rattle.grammar.specs.Nodes.{writtenOffset}
 use Rattle.grammar.specs.Coded.{kindOf}
 use Rattle.rows.specs.Fields.{kind, start, size, closer, left, right}
 use Rattle.rows.specs.Codes.{Fit}
@@ -39,7 +39,7 @@ Rooted O i (node l m r) =
 abbrev pub Tokened : (ℕ → ℕ) → List ℕ → ℕ → Tree → Type 0
 Tokened places K i nothing = Unit {0}
 Tokened places K i (leaf a) =
-    (kind K i ≡ kindOf (atom a)) × (start K i ≡ charactersOffset a (places i)) × (size K i ≡ length (characters a))
+    (kind K i ≡ kindOf (atom a)) × (start K i ≡ writtenOffset a (places i)) × (size K i ≡ length (asWritten a))
 Tokened places K i (bracket t) =
     (kind K i ≡ 4) × (closer K i ≡ suc (i + length (flat t))) × (present (spanTree t) ≡ true) × Tokened places K (suc i) t
 Tokened places K i (block ds t) =

@@ -1,4 +1,5 @@
--- What a row of tokens holds: the tokens of a text, by kind, where their characters begin and how many they are, and which closes which.
+-- What a row of tokens holds: the tokens of a text, by kind, where their bytes begin and how many they are, and which closes which. Of a
+-- quoted name these are the bytes as written between the outer quotes.
 use mathlib.Core.Path.{_≡_}
 use mathlib.Core.Bool.{true, false}
 use mathlib.Core.List.{List, [], _∷_, map}
@@ -8,25 +9,25 @@ use lib.ListN.{length, take, drop, getD}
 use Rattle.grammar.specs.Bytes.{Bytes}
 use Rattle.grammar.specs.Fault.{mostTokens}
 use Rattle.grammar.specs.Token.{Token, Atom, atom, structure, symbol, number, quoted, opening, closing, semicolon, keywordLet, keywordIn, keywordEnd}
-use Rattle.grammar.specs.Token.{Structure, characters}
+use Rattle.grammar.specs.Token.{Structure, asWritten, undoubled}
 use Rattle.grammar.specs.Outcome.{passed}
 use Rattle.grammar.specs.Scan.{Placed, scan}
 use Rattle.grammar.specs.Coded.{kindOf, tokenOf}
 use Rattle.rows.specs.Fields.{kind, start, size, closer}
 
--- The bytes of the text that token number `i` has as its characters.
-abbrev pub charactersOf : Bytes → List ℕ → ℕ → Bytes
-charactersOf text K i = take (size K i) (drop (start K i) text)
+-- The bytes of token number `i`, as written in the text.
+abbrev pub writtenOf : Bytes → List ℕ → ℕ → Bytes
+writtenOf text K i = take (size K i) (drop (start K i) text)
 
 -- Token number `i`, and the atom that it is if it is one.
 unfoldable pub tokenIn : Bytes → List ℕ → ℕ → Token
-tokenIn text K i = tokenOf (kind K i) (charactersOf text K i)
+tokenIn text K i = tokenOf (kind K i) (writtenOf text K i)
 
 unfoldable pub atomOf : ℕ → Bytes → Atom
-atomOf k c = elim (eqb k 1) [ true ↦ symbol c | false ↦ elim (eqb k 2) [ true ↦ number c | false ↦ quoted c ] ]
+atomOf k w = elim (eqb k 1) [ true ↦ symbol w | false ↦ elim (eqb k 2) [ true ↦ number w | false ↦ quoted (undoubled w) ] ]
 
 unfoldable pub atomIn : Bytes → List ℕ → ℕ → Atom
-atomIn text K i = atomOf (kind K i) (charactersOf text K i)
+atomIn text K i = atomOf (kind K i) (writtenOf text K i)
 
 -- `n` tokens from number `i` on, and those from number `i` to number `to`.
 unfoldable pub tokensIn : Bytes → List ℕ → ℕ → ℕ → List Token
@@ -58,14 +59,14 @@ pub data Paired (K : List ℕ) : ℕ → ℕ → Type 0 where
 abbrev pub Unblocked : List ℕ → ℕ → Type 0
 Unblocked K n = (j : ℕ) → j < n → kind K j ≡ 8 → ⊥
 
--- Where the characters of a placed token begin: behind the quote of a quoted name.
+-- Where the bytes of a placed token begin: behind the quote of a quoted name.
 unfoldable pub placeOf : Token → ℕ → ℕ
 placeOf (atom (symbol w)) at = at
 placeOf (atom (number d)) at = at
 placeOf (atom (quoted c)) at = suc at
 placeOf (structure s) at = at
 
--- How many characters a token has. Brackets have none: only canonical text gives them their byte again.
+-- How many they are. Brackets have none: only canonical text gives them their byte again.
 unfoldable pub structureSize : Structure → ℕ
 structureSize opening = 0
 structureSize closing = 0
@@ -75,7 +76,7 @@ structureSize keywordIn = 2
 structureSize keywordEnd = 3
 
 unfoldable pub sizeOf : Token → ℕ
-sizeOf (atom a) = length (characters a)
+sizeOf (atom a) = length (asWritten a)
 sizeOf (structure s) = structureSize s
 
 abbrev pub kindAt : Placed → ℕ

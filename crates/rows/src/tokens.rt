@@ -1,5 +1,5 @@
-// What a token is, where its characters begin and how many they are (a quoted name's without quotes), and which token closes it: of `(`
-// its `)`, of `let` its `in`, of `in` its `end`. Written by the scan, the closers by pairing.
+// What a token is, where its bytes begin and how many they are (a quoted name's as written, without the outer quotes), and which token
+// closes it: of `(` its `)`, of `let` its `in`, of `in` its `end`. Written by the scan, the closers by pairing.
 use crate::word;
 ghost use mathlib.Core.Path.{_≡_};
 ghost use Prim.Native.Nat.{_<_};

@@ -1,6 +1,6 @@
 // The services for C and Rust programs: `rt staticlib rule_reader` writes them into one archive.
 use reader::Answer;
-ghost use Rattle.reader.specs.Answered.{Reads, Canonicalizes};
+ghost use Rattle.reader.specs.Answered.{Reads, Canonicalizes, WritesName};
 
 // Reads a text into a lent node table; `reader::read` under a name for C.
 #[no_mangle]
@@ -16,4 +16,17 @@ pub extern "C" fn rule_canonicalize(text: &[u8], buffer: &mut [u8]) -> Answer
     ensures { λ r. ⌜ Canonicalizes (now (text .entry)) (now (buffer .entry)) (now (buffer .exit)) r ⌝ }
 {
     reader::canonicalize(text, buffer)
+}
+
+// Writes the characters of the name at a node of a node table into a lent buffer; `reader::write_name` under a name for C.
+#[no_mangle]
+pub extern "C" fn rule_write_name(
+    text: &[u8],
+    nodes: &[u32],
+    node: usize,
+    buffer: &mut [u8],
+) -> Answer
+    ensures { λ r. ⌜ WritesName (now (text .entry)) (now (nodes .entry)) node (now (buffer .entry)) (now (buffer .exit)) r ⌝ }
+{
+    reader::write_name(text, nodes, node, buffer)
 }

@@ -1,5 +1,6 @@
 pub mod Table
 pub mod TestedClasses
+pub mod QuotedCharacters
 pub mod TokenAtFront
 pub mod ScanSteps
 pub mod StoredToken

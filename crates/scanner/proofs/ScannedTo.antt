@@ -8,7 +8,7 @@ use native.Mathlib.Omega.{arith}
 use lib.ListN.{length, drop, getD, length-append, length-map, length-drop, drop-of-length-le, List·getD-append}
 use lib.Seq.{drop-drop, getD-append-seam}
 use Rattle.grammar.specs.Fault.{mostTokens}
-use Rattle.grammar.specs.Token.{Token, atom, structure, symbol, number, quoted, isBlankByte, spelling, structureNumber}
+use Rattle.grammar.specs.Token.{Token, atom, structure, symbol, number, quoted, doubled, isBlankByte, spelling, structureNumber}
 use Rattle.grammar.specs.Token.{opening, closing, semicolon, keywordLet, keywordIn, keywordEnd, isWord, isSign, isNumber, isSymbol, isToken}
 use Rattle.grammar.specs.Outcome.{refused, passed}
 use Rattle.grammar.specs.Scan.{Placed, nothing, wrong, taken, run, front, scan}
@@ -56,7 +56,7 @@ token-bytes (atom (symbol [])) e = absurd (true≢false (sym e))
 token-bytes (atom (symbol (b ∷ w))) e = (omega arith, λ k. absurd (omega arith))
 token-bytes (atom (number [])) e = absurd (true≢false (sym e))
 token-bytes (atom (number (b ∷ d))) e = (omega arith, λ k. absurd (omega arith))
-token-bytes (atom (quoted c)) e = (omega arith, λ k. omega (arith, length-append c (39 ∷ [])))
+token-bytes (atom (quoted c)) e = (omega arith, λ k. omega (arith, length-append (doubled c) (39 ∷ [])))
 token-bytes (structure opening) e = (omega arith, λ k. absurd (omega arith))
 token-bytes (structure closing) e = (omega arith, λ k. absurd (omega arith))
 token-bytes (structure semicolon) e = (omega arith, λ k. absurd (omega arith))

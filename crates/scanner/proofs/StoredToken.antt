@@ -1,4 +1,4 @@
--- A token in the row: where its characters begin and how many they are goes by its kind, and three stores into one entry leave them there
+-- A token in the row: where its bytes begin and how many they are goes by its kind, and three stores into one entry leave them there
 -- and keep the entries before it.
 use mathlib.Core.Path.{_≡_, refl, sym, ap, _∙_}
 use mathlib.Core.Bool.{true, false}
@@ -8,7 +8,7 @@ use native.Mathlib.Omega.{arith}
 use lib.Dec.{eqb, ltb}
 use lib.ListN.{length, length-append}
 use borrow.Author.Tests.{eq-eqb, ne-eqb, lt-ltb, le-ltb}
-use Rattle.grammar.specs.Token.{Token, atom, structure, symbol, number, quoted, characters, spelling, structureNumber}
+use Rattle.grammar.specs.Token.{Token, atom, structure, symbol, number, quoted, asWritten, doubled, spelling, structureNumber}
 use Rattle.grammar.specs.Token.{opening, closing, semicolon, keywordLet, keywordIn, keywordEnd}
 use Rattle.grammar.specs.Coded.{kindOf}
 use Rattle.rows.specs.Fields.{field, store, Within}
@@ -16,7 +16,7 @@ use Rattle.rows.specs.Tokens.{placeOf, sizeOf, structureSize}
 use Rattle.rows.proofs.Fields.{store-same, other-field, other-entry, store-length}
 use Rattle.scanner.specs.Scanning.{TokenStored}
 
--- By the kind: a quoted name's characters stand between the quotes, and brackets have none.
+-- By the kind: the bytes of a quoted name stand between the quotes, and of brackets there are none.
 abbrev placeBy : ℕ → ℕ → ℕ
 placeBy k at = elim (eqb k 3) [ true ↦ at + 1 | false ↦ at ]
 
@@ -36,10 +36,10 @@ place-by (structure keywordIn) at = refl
 place-by (structure keywordEnd) at = refl
 
 size-by : (t : Token) → sizeOf t ≡ sizeBy (kindOf t) (length (spelling t))
-unfolding sizeOf structureSize kindOf structureNumber characters spelling
+unfolding sizeOf structureSize kindOf structureNumber asWritten spelling
 size-by (atom (symbol w)) = refl
 size-by (atom (number d)) = refl
-size-by (atom (quoted c)) = omega (arith, length-append c (39 ∷ []))
+size-by (atom (quoted c)) = omega (arith, length-append (doubled c) (39 ∷ []))
 size-by (structure opening) = refl
 size-by (structure closing) = refl
 size-by (structure semicolon) = refl

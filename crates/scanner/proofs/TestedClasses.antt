@@ -1,13 +1,13 @@
 -- Tests of a byte by its class, as it was looked up in the table.
 -- A comparison of classes decides a test of the class; where a byte can stand in quotes, bounds and the class decide it.
 use mathlib.Core.Path.{_≡_, refl, sym, ap, _∙_}
-use mathlib.Core.Bool.{true, false, _||_}
+use mathlib.Core.Bool.{Bool, true, false, _||_}
 use Prim.Native.Nat.{ℕ, zero, suc, _≤_, _<_}
 use native.Mathlib.Omega.{arith}
 use lib.Dec.{eqb}
-use borrow.Author.Tests.{le-leb, lt-leb, eq-eqb, ne-eqb}
+use borrow.Author.Tests.{le-leb, lt-leb, eq-eqb, ne-eqb, eqb-true, eqb-false}
 use Rattle.grammar.specs.Bytes.{member}
-use Rattle.grammar.specs.Token.{class, quote, isBlankByte, inWord, inQuotes}
+use Rattle.grammar.specs.Token.{class, quote, isBlankByte, inWord, inQuotes, isQuote}
 use Rattle.grammar.proofs.Taken.{solo}
 use Rattle.scanner.specs.Classes.{inClass}
 
@@ -58,10 +58,18 @@ module _ (b : ℕ) {c : ℕ} (e : c ≡ class b) where
   unfolding class member
   no-quote f i = f (e ∙ ap class i)
 
+  pub is-quote : eqb c quote ≡ isQuote b
+  unfolding isQuote class member
+  is-quote = go (eqb c quote) refl
+    where
+      go : (x : Bool) → eqb c quote ≡ x → eqb c quote ≡ isQuote b
+      go true i = i ∙ sym (eq-eqb b 39 (a-quote (eqb-true c quote i)))
+      go false i = i ∙ sym (ne-eqb b 39 (no-quote (eqb-false c quote i)))
+
 module _ (b : ℕ) where
-  pub in-quotes : 32 ≤ b → b ≤ 126 → (b ≡ 39 → ⊥) → inQuotes b ≡ true
+  pub in-quotes : 32 ≤ b → b ≤ 126 → inQuotes b ≡ true
   unfolding inQuotes
-  in-quotes l m f = rw (le-leb 32 b l, le-leb b 126 m, ne-eqb b 39 f, inQuotes)
+  in-quotes l m = rw (le-leb 32 b l, le-leb b 126 m, inQuotes)
 
   pub below-quotes : b < 32 → inQuotes b ≡ false
   unfolding inQuotes
@@ -70,7 +78,3 @@ module _ (b : ℕ) where
   pub above-quotes : 126 < b → inQuotes b ≡ false
   unfolding inQuotes
   above-quotes l = rw (le-leb 32 b (omega arith), lt-leb b 126 l, inQuotes)
-
-  pub quote-ends : b ≡ 39 → inQuotes b ≡ false
-  unfolding inQuotes
-  quote-ends e = rw (e, inQuotes)

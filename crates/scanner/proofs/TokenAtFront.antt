@@ -1,18 +1,17 @@
 -- The token at a place of a text, by the class of the byte there: words, signs and numbers are the longest run of a test, and the run
 -- from the place on is one longer than the run behind its first byte.
 use mathlib.Core.Path.{_≡_, sym, ap, _∙_}
-use mathlib.Core.Bool.{Bool, true, false, _&&_}
+use mathlib.Core.Bool.{true, false}
 use mathlib.Core.List.{_∷_}
 use Prim.Native.Nat.{ℕ, _+_, _-_, _≤_, _<_}
 use native.Mathlib.Omega.{arith}
-use lib.Dec.{eqb, leb}
 use lib.ListN.{length, take, drop, getD}
 use lib.Seq.{drop-drop}
-use borrow.Author.Tests.{le-leb, lt-leb, eq-eqb, ne-eqb}
+use borrow.Author.Tests.{le-leb, lt-leb, ne-eqb}
 use Rattle.grammar.specs.Bytes.{Bytes, bytes, same}
 use Rattle.grammar.specs.Token.{Token, class, letter, digit, sign, quote, opens, closes, separates, longestName}
-use Rattle.grammar.specs.Token.{inQuotes, atom, quoted, structureNumber}
-use Rattle.grammar.specs.Scan.{wrong, taken, run, keywordOrSymbol, atMost, quotedName, frontOf, front}
+use Rattle.grammar.specs.Token.{isQuote, doubled, atom, quoted, structureNumber}
+use Rattle.grammar.specs.Scan.{wrong, taken, run, keywordOrSymbol, atMost, charactersAt, isClosed, quotedName, quotedWith, frontOf, front}
 use Rattle.grammar.specs.Coded.{kindOf}
 use Rattle.grammar.proofs.Runs.{Kind}
 use Rattle.byte_strings.proofs.Suffixes.{drop-next, run-step, same-length}
@@ -52,31 +51,29 @@ module _ (most n : ℕ) (t : Token) where
   unfolding atMost
   too-long h = rw (lt-leb n most h, atMost)
 
--- A quoted name, behind its opening quote: `n` bytes that pass, and a quote.
-module _ (s : Bytes) (n : ℕ) (e : n ≡ run inQuotes s) where
-  abbrev closed : Bool
-  closed = leb 1 n && leb n longestName && eqb (getD s n 0) 39
+-- A quoted name, behind its opening quote: the characters `c`, `n` of them, and a quote.
+module _ (s c : Bytes) (e : charactersAt s ≡ c) (n : ℕ) (m : length c ≡ n) where
+  name-taken : isClosed c s ≡ true → quotedName s ≡ taken (atom (quoted c)) (length (doubled c) + 2)
+  unfolding quotedName quotedWith
+  name-taken h = ap (λ d. quotedWith d s) e ∙ rw (h, quotedWith)
 
-  name-taken : closed ≡ true → quotedName s ≡ taken (atom (quoted (take n s))) (n + 2)
-  unfolding quotedName
-  name-taken h = rw (← e, quotedName, h) (ap (λ m. taken (atom (quoted (take m s))) (m + 2)) (sym e))
-
-  name-wrong : closed ≡ false → quotedName s ≡ wrong 3
-  unfolding quotedName
-  name-wrong h = rw (← e, quotedName, h)
+  name-wrong : isClosed c s ≡ false → quotedName s ≡ wrong 3
+  unfolding quotedName quotedWith
+  name-wrong h = ap (λ d. quotedWith d s) e ∙ rw (h, quotedWith)
 
   pub quoted-empty : n < 1 → quotedName s ≡ wrong 3
-  quoted-empty h = name-wrong (rw (lt-leb 1 n h))
+  quoted-empty h = name-wrong (rw (lt-leb 1 (length c) (omega arith)))
 
   pub quoted-long : 1 ≤ n → longestName < n → quotedName s ≡ wrong 3
-  quoted-long h g = name-wrong (rw (le-leb 1 n h, lt-leb n longestName g))
+  quoted-long h g = name-wrong (rw (le-leb 1 (length c) (omega arith), lt-leb (length c) longestName (omega arith)))
 
   module _ (h : 1 ≤ n) (g : n ≤ longestName) where
-    pub quoted-taken : getD s n 0 ≡ 39 → quotedName s ≡ taken (atom (quoted (take n s))) (n + 2)
-    quoted-taken q = name-taken (rw (le-leb 1 n h, le-leb n longestName g, eq-eqb (getD s n 0) 39 q))
+    pub quoted-taken :
+        isQuote (getD s (length (doubled c)) 0) ≡ true → quotedName s ≡ taken (atom (quoted c)) (length (doubled c) + 2)
+    quoted-taken q = name-taken (rw (le-leb 1 (length c) (omega arith), le-leb (length c) longestName (omega arith), q))
 
-    pub quoted-open : (getD s n 0 ≡ 39 → ⊥) → quotedName s ≡ wrong 3
-    quoted-open q = name-wrong (rw (le-leb 1 n h, le-leb n longestName g, ne-eqb (getD s n 0) 39 q))
+    pub quoted-open : isQuote (getD s (length (doubled c)) 0) ≡ false → quotedName s ≡ wrong 3
+    quoted-open q = name-wrong (rw (le-leb 1 (length c) (omega arith), le-leb (length c) longestName (omega arith), q))
 
 module _ (s : Bytes) (at : ℕ) (h : at < length s) where
   -- What stands at a place goes by the class of the byte there.

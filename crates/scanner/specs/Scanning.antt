@@ -3,12 +3,12 @@ use mathlib.Core.Path.{_≡_}
 use mathlib.Core.Bool.{Bool, false}
 use mathlib.Core.List.{List}
 use Prim.Native.Nat.{ℕ, _+_, _*_, _≤_, _<_}
-use lib.ListN.{length}
+use lib.ListN.{length, take}
 use Rattle.grammar.specs.Fault.{longestText, mostTokens}
 use Rattle.grammar.specs.Bytes.{Bytes}
-use Rattle.grammar.specs.Token.{Token, spelling}
+use Rattle.grammar.specs.Token.{Token, spelling, doubled}
 use Rattle.grammar.specs.Outcome.{Outcome, refused, passed}
-use Rattle.grammar.specs.Scan.{Placed}
+use Rattle.grammar.specs.Scan.{Placed, charactersAt}
 use Rattle.grammar.specs.Scan as Scan
 use Rattle.grammar.specs.Coded.{kindOf}
 use Rattle.rows.specs.Fields.{field, Within, kind, start, size}
@@ -17,6 +17,10 @@ use Rattle.scanner.specs.declared.fronts.Front.{Front}
 use Rattle.scanner.specs.declared.fronts.Front.the-variants as Found
 use Rattle.scanner.specs.declared.scan.Scanned.{Scanned}
 use Rattle.scanner.specs.declared.scan.Scanned.the-variants as Answer
+
+-- How many bytes the first character of a quoted name has, as written: none where none stands.
+abbrev pub firstSize : Bytes → ℕ
+firstSize s = length (doubled (take 1 (charactersAt s)))
 
 -- What stands at the front of bytes, as the code answers it: 01's number, or the kind and length of the token. (It is asked where a byte
 -- stands.)

@@ -56,13 +56,20 @@ fn limited(kind: u16, size: usize, most: usize) -> Front
     Front::Token { kind, size }
 }
 
-// The quoted name whose opening quote stands at `at`.
+// The quoted name whose opening quote stands at `at`: `n` characters, which end at `e`, and `written` bytes.
 fn quoted(table: &[u8; 256], text: &[u8], at: usize) -> Front
     requires { ⌜ IsTable (now table) × (at < length (now text)) ⌝ }
     ensures { λ r. ⌜ Fronts (quotedName (drop (at + 1) (now (text .entry)))) r ⌝ }
 {
-    let e = runs::quoted_end(table, text, at + 1);
-    let n = e - at - 1;
+    let mut n: usize = 0;
+    let mut e = at + 1;
+    let mut next = runs::character_end(table, text, e);
+    while e < next {
+        n += 1;
+        e = next;
+        next = runs::character_end(table, text, e);
+    }
+    let written = e - at - 1;
     if n < 1 {
         return Front::Refused {
             number: BAD_QUOTED_NAME,
@@ -73,13 +80,11 @@ fn quoted(table: &[u8; 256], text: &[u8], at: usize) -> Front
             number: BAD_QUOTED_NAME,
         };
     }
-    if e < text.len() {
-        if classes::class(table, text[e]) == byte_classes::QUOTE {
-            return Front::Token {
-                kind: kinds::QUOTED,
-                size: n + 2,
-            };
-        }
+    if runs::is_quote(table, text, e) {
+        return Front::Token {
+            kind: kinds::QUOTED,
+            size: written + 2,
+        };
     }
     Front::Refused {
         number: BAD_QUOTED_NAME,

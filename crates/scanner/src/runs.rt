@@ -1,11 +1,12 @@
-// Runs of bytes of a class.
+// Runs of bytes of a class, and the characters of a quoted name.
 use crate::classes;
 ghost use mathlib.Core.Path.{_≡_};
 ghost use Prim.Native.Nat.{_+_};
-ghost use lib.ListN.{drop};
-ghost use Rattle.grammar.specs.Token.{inWord, inQuotes};
+ghost use lib.ListN.{drop, getD};
+ghost use Rattle.grammar.specs.Token.{inWord, isQuote};
 ghost use Rattle.grammar.specs.Scan.{run};
 ghost use Rattle.scanner.specs.Classes.{IsTable, inClass};
+ghost use Rattle.scanner.specs.Scanning.{firstSize};
 
 // Where the bytes of a class from `at` on end.
 pub fn run_end(table: &[u8; 256], text: &[u8], at: usize, class: u8) -> usize
@@ -41,24 +42,38 @@ pub fn word_end(table: &[u8; 256], text: &[u8], at: usize) -> usize
     i
 }
 
-// Where the bytes from `at` on that can stand in quotes end: those from 32 to 126, of every class but the quote's.
-pub fn quoted_end(table: &[u8; 256], text: &[u8], at: usize) -> usize
+// Whether a quote stands at `at`. Behind the text stands none.
+pub fn is_quote(table: &[u8; 256], text: &[u8], at: usize) -> bool
     requires { ⌜ IsTable (now table) ⌝ }
-    ensures { λ r. ⌜ r ≡ at + run inQuotes (drop at (now (text .entry))) ⌝ }
+    ensures { λ r. ⌜ r ≡ isQuote (getD (now (text .entry)) at 0) ⌝ }
 {
-    let mut i = at;
-    while i < text.len() {
-        let b = text[i];
-        if b < 32 {
-            return i;
-        }
-        if 126 < b {
-            return i;
-        }
-        if classes::class(table, b) == byte_classes::QUOTE {
-            return i;
-        }
-        i += 1;
+    if at < text.len() {
+        return classes::class(table, text[at]) == byte_classes::QUOTE;
     }
-    i
+    false
+}
+
+// Where the character of a quoted name at `at` ends: behind a pair of quotes, or behind another byte from 32 to 126. `at` itself where
+// none stands.
+pub fn character_end(table: &[u8; 256], text: &[u8], at: usize) -> usize
+    requires { ⌜ IsTable (now table) ⌝ }
+    ensures { λ r. ⌜ r ≡ at + firstSize (drop at (now (text .entry))) ⌝ }
+{
+    if text.len() <= at {
+        return at;
+    }
+    if is_quote(table, text, at) {
+        if is_quote(table, text, at + 1) {
+            return at + 2;
+        }
+        return at;
+    }
+    let b = text[at];
+    if b < 32 {
+        return at;
+    }
+    if 126 < b {
+        return at;
+    }
+    at + 1
 }

@@ -22,7 +22,7 @@ pub enum Scanned {
     Refused { number: u8, at: usize },
 }
 
-// Token number `n` with its characters: a quoted name's stand without the quotes, and brackets have none.
+// Token number `n` with its bytes: a quoted name's stand between the outer quotes, and brackets have none.
 fn store(tokens: &mut [u16], n: usize, kind: u16, at: usize, size: usize)
     requires { ⌜ Storable (now tokens) n kind at size ⌝ }
     ensures { λ r. ⌜ Stores (now (tokens .entry)) (now (tokens .exit)) n kind at size ⌝ }

@@ -1,4 +1,4 @@
-// Runs both services with buffers of several lengths, and says whether the words or bytes that must keep their contents do.
+// Runs the services with buffers of several lengths, and says whether the words or bytes that must keep their contents do.
 use libc::STDOUT_FILENO;
 use nodes::node;
 use reader::Answer;
@@ -11,7 +11,7 @@ ghost use Rattle.short_buffers.specs.Room.{room};
 // The words of the table and the bytes of the buffer, of which parts are lent.
 const ROOM: usize = 40;
 
-// Fills a buffer with 200 plus the index. Neither service writes such bytes or words here.
+// Fills a buffer with 200 plus the index. No service writes such bytes or words here.
 fn fill(buffer: &mut [u8])
     requires { ⌜ length (now buffer) ≤ 56 ⌝ }
     ensures { λ _. ⌜ length (now (buffer .exit)) ≡ length (now (buffer .entry)) ⌝ }
@@ -94,21 +94,32 @@ fn read_into(text: &[u8], len: usize)
     );
 }
 
-// Canonicalizes a text into the first `len` bytes of a buffer.
-fn canonicalize_into(text: &[u8], len: usize)
-    requires { ⌜ len ≤ room ⌝ }
+// Writes into a buffer the characters of the name at the first node of a text, or the canonical text.
+fn write(text: &[u8], name: bool, buffer: &mut [u8]) -> Answer {
+    if name {
+        let mut table = [0u32; ROOM];
+        reader::read(text, &mut table);
+        return reader::write_name(text, &table, 0, buffer);
+    }
+    reader::canonicalize(text, buffer)
+}
+
+// Writes it into the first `len` bytes of a buffer.
+fn write_into(text: &[u8], name: bool, word: &[u8], len: usize)
+    requires { ⌜ (len ≤ room) × (length (now word) ≤ 4) ⌝ }
 {
     let mut buffer = [0u8; ROOM];
     fill(&mut buffer);
-    let a = reader::canonicalize(text, &mut buffer[..len]);
+    let a = write(text, name, &mut buffer[..len]);
     let mut words = [0u32; ROOM];
     widen(&buffer, &mut words);
-    report(text, len, b" bytes: ", b"tidy", a, &words, a.count);
+    report(text, len, b" bytes: ", word, a, &words, a.count);
 }
 
 enum Service {
     Read,
     Canonicalize,
+    WriteName,
 }
 
 // Runs a service with a buffer of `len` words or bytes.
@@ -117,7 +128,8 @@ fn run_into(service: Service, text: &[u8], len: usize)
 {
     match service {
         Service::Read => read_into(text, len),
-        Service::Canonicalize => canonicalize_into(text, len),
+        Service::Canonicalize => write_into(text, false, b"tidy", len),
+        Service::WriteName => write_into(text, true, b"name", len),
     }
 }
 
@@ -141,6 +153,8 @@ fn main() {
     run(Service::Canonicalize, b"a+b", 5);
     run(Service::Canonicalize, b"((a)) * (b + c)", 13);
     run(Service::Canonicalize, b"a - - b", 7);
+    run(Service::WriteName, b"'O''Neill'", 7);
+    run(Service::WriteName, b"''''", 1);
     run_into(Service::Read, b" ", 0);
     run_into(Service::Read, b" ", ROOM);
     run_into(Service::Canonicalize, b" ", 0);

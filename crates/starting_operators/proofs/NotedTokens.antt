@@ -7,7 +7,7 @@ use Prim.Native.Nat.{ℕ, suc, _<_}
 use native.Mathlib.Omega.{arith}
 use lib.ListN.{length}
 use Rattle.grammar.specs.Bytes.{Bytes}
-use Rattle.grammar.specs.Token.{Atom, symbol, quoted}
+use Rattle.grammar.specs.Token.{Atom, symbol, quoted, doubled}
 use Rattle.grammar.specs.Operator.{Fixity, Prefix, Infix, Postfix, role}
 use Rattle.grammar.specs.Declaration.{startTable}
 use Rattle.grammar.proofs.Logic.{below}
@@ -61,9 +61,9 @@ module _ (name : Bytes) (R : List ℕ) (i : ℕ) (R′ : List ℕ) (w : Within 4
     symbol-noted s z =
         name-notes s (symbol name) (λ f. refl) (z ∙ ap (λ m. arrivalOf (startRoles m)) e ∙ ap arrivalOf (fun-ext (start-roles name)))
 
-    pub quoted-noted : R′ ≡ withWords R i p q 0 0 → NotedAt startTable R i (quoted name) R′
+    pub quoted-noted : R′ ≡ withWords R i p q 0 0 → (c : Bytes) → name ≡ doubled c → NotedAt startTable R i (quoted c) R′
     unfolding rolesFor arrivalFor
-    quoted-noted s = name-notes s (quoted name) (λ f. refl) refl
+    quoted-noted s c e = name-notes s (quoted c) (λ f. ap (λ w. role startTable w f) e) refl
 
   pub unnumbered-noted : Unnumbered name → R′ ≡ withWords R i 0 0 0 0 → NotedAt startTable R i (symbol name) R′
   unnumbered-noted u s =

@@ -11,7 +11,7 @@ use Rattle.grammar.specs.Operator.{Roles, Table}
 use Rattle.grammar.specs.Scan.{Placed}
 use Rattle.grammar.specs.Declaration.{startTable}
 use Rattle.rows.specs.Fields.{kind, start, size, closer, arrival, Holds}
-use Rattle.rows.specs.Tokens.{charactersOf, atomIn, IsAtomKind, Stored}
+use Rattle.rows.specs.Tokens.{writtenOf, atomIn, IsAtomKind, Stored}
 use Rattle.rows.specs.Agreeing.{Noted, KeptOutside}
 use Rattle.rows.specs.declared.class.Class.{Class}
 use Rattle.rows.specs.declared.class.Class.the-variants.{Name, Number, Operator, Bracket, Block}
@@ -48,9 +48,9 @@ pub record Notable (text : Bytes) (K R : List ℕ) (n : ℕ) : Type 0 where
 
 -- The class of token `i`, which is no closing bracket.
 abbrev pub IsClass : Bytes → List ℕ → ℕ → Class → Type 0
-IsClass text K i (Operator k) = (kind K i ≡ 1) × (k ≡ startNumber (charactersOf text K i))
+IsClass text K i (Operator k) = (kind K i ≡ 1) × (k ≡ startNumber (writtenOf text K i))
 IsClass text K i (Name s n) =
-    (s ≡ start K i) × (n ≡ size K i) × (((kind K i ≡ 1) × Unnumbered (charactersOf text K i)) ⊎ (kind K i ≡ 3))
+    (s ≡ start K i) × (n ≡ size K i) × (((kind K i ≡ 1) × Unnumbered (writtenOf text K i)) ⊎ (kind K i ≡ 3))
 IsClass text K i Number = kind K i ≡ 2
 IsClass text K i (Bracket c) = (kind K i ≡ 4) × (closer K i ≡ c)
 IsClass text K i (Block c) = ⊥

@@ -8,16 +8,16 @@ use lib.ListN.{length, take, drop}
 use borrow.Author.Tests.{lt-leb}
 use Rattle.grammar.specs.Bytes.{Bytes}
 use Rattle.grammar.specs.Nodes.{wordsPerNode}
-use Rattle.reader.specs.Answered.{nodeCharacters}
-use Rattle.reader.proofs.NodeCharacters.{whole-characters}
+use Rattle.reader.specs.Answered.{nodeWritten}
+use Rattle.reader.proofs.NodeCharacters.{whole-written}
 use Rattle.reader.proofs.characters.Statement.{statement}
 use Rattle.reader.proofs.characters.Tie as tie
 
 no-node :
     (text : Bytes) (table : List ℕ) (i : ℕ) → length table < i * wordsPerNode + wordsPerNode
-    → take 0 (drop 0 text) ≡ nodeCharacters text table i
-unfolding nodeCharacters
-no-node text table i l = rw (lt-leb (i * wordsPerNode + wordsPerNode) (length table) l, nodeCharacters)
+    → take 0 (drop 0 text) ≡ nodeWritten text table i
+unfolding nodeWritten
+no-node text table i l = rw (lt-leb (i * wordsPerNode + wordsPerNode) (length table) l, nodeWritten)
 
 cut-requires : tie.Need-cut-requires
 cut-requires c κs = search needs
@@ -70,7 +70,7 @@ cut-requires-3 c κs = search needs
 
 returns-3 : tie.Need-returns-3
 returns-3 c =
-    c .cut3 .ensures ∙ sym (whole-characters _ _ _ (omega arith))
+    c .cut3 .ensures ∙ sym (whole-written _ _ _ (omega arith))
 
 pub characters-spec : {M : Type 1} → statement M
 characters-spec =

@@ -6,7 +6,7 @@ use borrow.Author.Needs.{needs}
 use lib.ListN.{length, take, drop}
 use Rattle.grammar.specs.Bytes.{Bytes}
 use Rattle.rows.specs.Fields.{kind, closer}
-use Rattle.rows.specs.Tokens.{charactersOf}
+use Rattle.rows.specs.Tokens.{writtenOf}
 use Rattle.rows.proofs.Fields.{within}
 use Rattle.rows.proofs.PairedCases.{paired-block}
 use Rattle.operators.specs.Entries.{codedFind, IsName, Quickly}
@@ -18,7 +18,7 @@ use Rattle.resolving.proofs.Classes.{class-operator, class-name, class-
 use Rattle.resolving.proofs.classify.Statement.{statement}
 use Rattle.resolving.proofs.classify.Tie as tie
 
--- The entry; the kind of its token, and where its characters stand.
+-- The entry; the kind of its token, and where its bytes stand.
 abbrev entry : tie.After-kind → tie.Start
 entry c = c .before .before .before
 
@@ -31,7 +31,7 @@ is-kind c n e = sym (c .kind .ensures) ∙ e
 name :
     (c : tie.After-size) → let a = entry (first c) .args in
     let s = c .before .start .result in
-    take (s + c .size .result - s) (drop s (a .text .now)) ≡ charactersOf (a .text .now) (a .tokens .now) (a .i)
+    take (s + c .size .result - s) (drop s (a .text .now)) ≡ writtenOf (a .text .now) (a .tokens .now) (a .i)
 name c =
     let p = entry (first c) .pre .0 in
     part-is (p .2) (p .3) (c .before .start .ensures) (c .size .ensures)
@@ -56,7 +56,7 @@ finds c m = let a = entry (first c) .args in codedFind (a .text .now) (a .words 
 quickly :
     (c : tie.After-find-quickly) → let s = c .before .before .before in
     let a = entry (first s) .args in
-    Quickly (finds s (charactersOf (a .text .now) (a .tokens .now) (a .i))) (c .find-quickly .result)
+    Quickly (finds s (writtenOf (a .text .now) (a .tokens .now) (a .i))) (c .find-quickly .result)
 quickly c =
     let s = c .before .before .before in
     let e = entry (first s) in
@@ -65,13 +65,13 @@ quickly c =
 slowly :
     (c : tie.After-find) → let s = c .before .before .before .before .before .before in
     let a = entry (first s) .args in
-    c .find .result ≡ finds s (charactersOf (a .text .now) (a .tokens .now) (a .i))
+    c .find .result ≡ finds s (writtenOf (a .text .now) (a .tokens .now) (a .i))
 slowly c = let s = c .before .before .before .before .before .before in c .find .ensures ∙ ap (finds s) (name s)
 
 -- A name that is no operator.
 name-of :
     (c : tie.Then4) → let a = entry (first (c .before)) .args in
-    let m = charactersOf (a .text .now) (a .tokens .now) (a .i) in
+    let m = writtenOf (a .text .now) (a .tokens .now) (a .i) in
     finds (c .before) m ≡ Nothing
     → Name (c .before .before .start .result) (c .before .size .result) ≡ codedClass (a .text .now) (a .tokens .now) (a .i) (a .words .now) (a .count)
 name-of c f =

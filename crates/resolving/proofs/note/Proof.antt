@@ -16,6 +16,7 @@ use Rattle.resolving.proofs.Classes.{
   roles-within,
   part-within,
   part-is,
+  part-doubled,
   part-named,
   name-kind,
 }
@@ -133,7 +134,8 @@ returns-2 c =
     let d = n .before .before in
     let p = entry d .pre .0 in
     let s = says d _ (n .start .given .1) in
-    name-item _ _ _ _ _ _ (Unfound _ (operators d)) (k .kind .ensures) (part-is (p .1) (p .2) (s .0) (s .1)) (s .2) (o .store-name .ensures)
+    name-item _ _ _ _ _ _ (Unfound _ (operators d)) (k .kind .ensures) (part-is (p .1) (p .2) (s .0) (s .1)) (s .2) (part-doubled (p .1) (p .2))
+    (o .store-name .ensures)
 
 same-length-3 : tie.Need-same-length-3
 same-length-3 c = search needs

@@ -34,14 +34,14 @@ zeros-requires c κs =
     let k = b .before .before .before in
     number-cut (k .before .before .before .before .before .pre .1) _ _ (b .start .ensures) (n .size .ensures) (sym (k .kind .ensures) ∙ b .before .before .if1 .taken)
 
-add-set-characters : tie.Need-add-set-characters
-add-set-characters c = search needs
+add-set-bytes : tie.Need-add-set-bytes
+add-set-bytes c = search needs
 
-sub-set-characters : tie.Need-sub-set-characters
-sub-set-characters c = search needs
+sub-set-bytes : tie.Need-sub-set-bytes
+sub-set-bytes c = search needs
 
-set-characters-requires : tie.Need-set-characters-requires
-set-characters-requires c κs = search needs
+set-bytes-requires : tie.Need-set-bytes-requires
+set-bytes-requires c κs = search needs
 
 same-length : tie.Need-same-length
 same-length c = search needs
@@ -54,7 +54,7 @@ returns c =
     let b = n .before .before in
     let k = b .before .before .before in
     trimmed-number (k .before .before .before .before .before .pre .1) _ _ (b .start .ensures) (n .size .ensures) (sym (k .kind .ensures) ∙ b .before .before .if1 .taken)
-    (z .zeros .result) (z .zeros .ensures .0) (z .zeros .ensures .1) (s .set-characters .ensures)
+    (z .zeros .result) (z .zeros .ensures .0) (z .zeros .ensures .1) (s .set-bytes .ensures)
 
 start-requires-2 : tie.Need-start-requires-2
 start-requires-2 c κs = search needs
@@ -82,17 +82,17 @@ stays-quoted-requires c κs =
     let h = k .before .before .before .before .before .pre in
     (h .0, h .1 .roles, name-cut (h .1) _ _ (b .start2 .ensures) (n .size2 .ensures) (sym (k .kind .ensures) ∙ b .before .before .if2 .taken))
 
-sub-set-characters-2 : tie.Need-sub-set-characters-2
-sub-set-characters-2 c =
+sub-set-bytes-2 : tie.Need-sub-set-bytes-2
+sub-set-bytes-2 c =
     let b = c .before .before .before .before .before .before in
     let k = b .before .before .before .before in
     omega (arith, b .start2 .ensures, k .before .before .before .before .before .pre .1 .quoted (sym (k .kind .ensures) ∙ b .before .before .if2 .taken) .0)
 
-add-set-characters-2 : tie.Need-add-set-characters-2
-add-set-characters-2 c = search needs
+add-set-bytes-2 : tie.Need-add-set-bytes-2
+add-set-bytes-2 c = search needs
 
-set-characters-requires-2 : tie.Need-set-characters-requires-2
-set-characters-requires-2 c κs = search needs
+set-bytes-requires-2 : tie.Need-set-bytes-requires-2
+set-bytes-requires-2 c κs = search needs
 
 same-length-2 : tie.Need-same-length-2
 same-length-2 c = search needs
@@ -105,7 +105,7 @@ returns-2 c =
     let b = n .before .before in
     let k = b .before .before .before .before in
     trimmed-quoted (k .before .before .before .before .before .pre .1) _ _ (b .start2 .ensures) (n .size2 .ensures) (sym (k .kind .ensures) ∙ b .before .before .if2 .taken)
-    (q .stays-quoted .ensures) (s .before .before .if3 .taken) (s .set-characters2 .ensures)
+    (q .stays-quoted .ensures) (s .before .before .if3 .taken) (s .set-bytes2 .ensures)
 
 same-length-3 : tie.Need-same-length-3
 same-length-3 c = search needs
@@ -139,9 +139,9 @@ trim-token-spec =
     part-zeros-start
     part-zeros-end
     zeros-requires
-    add-set-characters
-    sub-set-characters
-    set-characters-requires
+    add-set-bytes
+    sub-set-bytes
+    set-bytes-requires
     same-length
     returns
     start-requires-2
@@ -151,9 +151,9 @@ trim-token-spec =
     part-stays-quoted-start
     part-stays-quoted-end
     stays-quoted-requires
-    sub-set-characters-2
-    add-set-characters-2
-    set-characters-requires-2
+    sub-set-bytes-2
+    add-set-bytes-2
+    set-bytes-requires-2
     same-length-2
     returns-2
     same-length-3

@@ -14,7 +14,7 @@ use Rattle.grammar.specs.Declaration.{Parsed, declares, clears, plainWord, symb
 use Rattle.rows.proofs.Stored.{stored-end, stored-offset, stored-sizes, stored-ascend}
 use Rattle.declaration_part.specs.declared.parse.Parsed.the-variants.{Clears}
 use Rattle.declaration_part.specs.Parsing.{nextPlace, precedenceCode, fixityNumber, associativityNumber}
-use Rattle.declaration_part.specs.Parts.{charactersFrom}
+use Rattle.declaration_part.specs.Parts.{writtenFrom}
 use Rattle.declaration_part.proofs.Precedences.{precedence-bound, precedence-empty}
 use Rattle.declaration_part.proofs.Words.{sideOf, fixity-bound, associativity-bound, fixity-empty, associativity-empty}
 use Rattle.declaration_part.proofs.DeclarationParts.{
@@ -76,7 +76,7 @@ start₃ c = start₂ (sided (c .before) .before)
 abbrev digits : tie.After-next-at2 → Bytes
 digits c =
     let s = start₃ c in
-    charactersFrom 2 (s .args .text .now) (s .args .tokens .now) (s .args .from + 2) (s .args .to) (c .next-at2 .result)
+    writtenFrom 2 (s .args .text .now) (s .args .tokens .now) (s .args .from + 2) (s .args .to) (c .next-at2 .result)
 
 -- A number that is not 0 was read off some bytes.
 read-off : (code : Bytes → ℕ) → code [] ≡ 0 → {n : ℕ} {w : Bytes} → n ≡ code w → (n ≡ 0 → ⊥) → w ≡ [] → ⊥

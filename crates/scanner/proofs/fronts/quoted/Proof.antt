@@ -1,111 +1,129 @@
--- The tests are those of `quotedName`, one by one; behind the end of the text stands no quote. Assumes nothing.
-use mathlib.Core.Path.{_≡_, refl, sym, _∙_}
-use Prim.Native.Nat.{ℕ, _+_, _-_, _≤_}
+-- The loop's invariant: the characters up to `e` are counted, and the next one ends at `next`. Behind it the tests are those of
+-- `quotedName`, one by one. Assumes nothing.
+use mathlib.Core.Path.{_≡_, refl, sym, ap, _∙_}
+use Prim.Native.Nat.{ℕ, _+_, _-_, _<_}
 use native.Mathlib.Omega.{arith}
-use borrow.Author.Needs.{needs}
-use lib.ListN.{length, drop, getD, List·getD-eq-default}
+use lib.ListN.{length, drop, getD}
 use lib.Seq.{getD-drop}
+use borrow.Author.Needs.{needs}
 use Rattle.grammar.specs.Bytes.{Bytes}
-use Rattle.grammar.specs.Token.{inQuotes}
-use Rattle.grammar.specs.Scan.{run}
+use Rattle.grammar.specs.Token.{isQuote, doubled}
+use Rattle.grammar.specs.Scan.{charactersAt}
 use Rattle.grammar.specs.Coded.{kindOf}
-use Rattle.scanner.proofs.TestedClasses.{a-quote, no-quote}
+use Rattle.scanner.specs.declared.fronts.Front.the-variants as Found
+use Rattle.scanner.specs.Scanning.{firstSize}
+use Rattle.scanner.proofs.QuotedCharacters.{Counted, none-counted, counted-few, next-counted, all-counted}
 use Rattle.scanner.proofs.TokenAtFront.{quoted-empty, quoted-long, quoted-taken, quoted-open}
 use Rattle.scanner.proofs.fronts.quoted.Statement.{statement}
 use Rattle.scanner.proofs.fronts.quoted.Tie as tie
 
--- The bytes that pass are those between the opening quote and `e`, and the byte behind them stands at `e`.
-module _ (s : Bytes) (at e : ℕ) (r : e ≡ at + 1 + run inQuotes (drop (at + 1) s)) where
-  count : e - at - 1 ≡ run inQuotes (drop (at + 1) s)
-  count = omega arith
+abbrev Inv-loop : tie.InvT-loop
+Inv-loop table text at n₀ e₀ next₀ n e next =
+    (at < length text) × Counted text (at + 1) e n × (next ≡ e + firstSize (drop e text))
 
-  behind : getD (drop (at + 1) s) (e - at - 1) 0 ≡ getD s e 0
-  behind = let i : at + 1 + (e - at - 1) ≡ e = omega arith in rw i at (getD-drop (at + 1) s (e - at - 1) 0)
+abbrev μ-loop : tie.MeasureT-loop
+μ-loop table text at n₀ e₀ next₀ n e next = length text - e
 
-  ended : length s ≤ e → getD s e 0 ≡ 39 → ⊥
-  ended h q = omega (arith, sym q ∙ List·getD-eq-default s 0 h)
-
-module _ (c : tie.After-quoted-end) where
+-- Behind the loop: all characters are counted, and the byte behind them stands at `e`.
+module _ (c : tie.After-loop Inv-loop μ-loop) where
   abbrev s : Bytes
-  s = c .before .before .args .text .now
+  s = c .before .before .before .before .args .text .now
 
-  abbrev place : ℕ
-  place = c .before .before .args .at
+  abbrev from : ℕ
+  from = c .before .before .before .before .args .at + 1
 
-  abbrev stop : ℕ
-  stop = c .quoted-end .result
+  abbrev counted : Counted s from (c .before .loop .e) (c .before .loop .n)
+  counted = c .before .loop .inv .1
 
-  abbrev many : stop - place - 1 ≡ run inQuotes (drop (place + 1) s)
-  many = count s place stop (c .quoted-end .ensures)
+  abbrev all : charactersAt (drop from s) ≡ counted .found
+  all = all-counted counted (c .before .loop .inv .2) (c .loop-test .left)
 
-add-quoted-end : tie.Need-add-quoted-end
-add-quoted-end c = search needs
+  behind : isQuote (getD (drop from s) (length (doubled (counted .found))) 0) ≡ isQuote (getD s (c .before .loop .e) 0)
+  behind =
+      ap isQuote (getD-drop from s (length (doubled (counted .found))) 0) ∙ ap (λ i. isQuote (getD s i 0)) (sym (counted .ends))
 
-quoted-end-requires : tie.Need-quoted-end-requires
-quoted-end-requires c κs = search needs
+add-e : tie.Need-add-e Inv-loop μ-loop
+add-e c = search needs
 
-sub-n : tie.Need-sub-n
-sub-n c = search needs
+character-end-requires : tie.Need-character-end-requires Inv-loop μ-loop
+character-end-requires c κs = search needs
 
-sub-n-2 : tie.Need-sub-n-2
-sub-n-2 c = search needs
+loop-holds : tie.Need-loop-holds Inv-loop μ-loop
+loop-holds c =
+    let b = c .before .before in
+    (b .pre .1, none-counted (b .args .text .now) (b .args .at + 1) (omega (arith, b .pre .1)), c .character-end .ensures)
 
-returns : tie.Need-returns
-returns c = let d = c .before in rw (quoted-empty (drop (place d + 1) (s d)) _ (many d) (c .if1 .taken)) refl
+add-n : tie.Need-add-n Inv-loop μ-loop
+add-n c = omega (arith, counted-few (c .before .loop .inv .1), c .before .before .before .before .good .1)
 
-returns-2 : tie.Need-returns-2
-returns-2 c =
-    let d = c .before .before in
-    rw (quoted-long (drop (place d + 1) (s d)) _ (many d) (c .before .if1 .left) (c .if2 .taken)) refl
+character-end-requires-2 : tie.Need-character-end-requires-2 Inv-loop μ-loop
+character-end-requires-2 c κs = search needs
 
-shared-slice-read-class : tie.Need-shared-slice-read-class
-shared-slice-read-class c = search needs
+loop-less : tie.Need-loop-less Inv-loop μ-loop
+loop-less c =
+    let l = c .before .before .loop in
+    let v = next-counted (l .inv .1) (l .inv .2) (c .before .loop-test .taken) in
+    omega (arith, v .within, c .before .loop-test .taken)
 
-class-requires : tie.Need-class-requires
-class-requires c κs = search needs
+loop-again : tie.Need-loop-again Inv-loop μ-loop
+loop-again c =
+    let l = c .before .before .loop in
+    (l .inv .0, next-counted (l .inv .1) (l .inv .2) (c .before .loop-test .taken), c .character-end2 .ensures)
 
-add-t12 : tie.Need-add-t12
-add-t12 c = search needs
+sub-written : tie.Need-sub-written Inv-loop μ-loop
+sub-written c = omega (arith, counted c .ends)
 
-returns-3 : tie.Need-returns-3
+sub-written-2 : tie.Need-sub-written-2 Inv-loop μ-loop
+sub-written-2 c = omega (arith, counted c .ends)
+
+returns : tie.Need-returns Inv-loop μ-loop
+returns c = let a = c .before in rw (quoted-empty _ _ (all a) _ (counted a .many) (omega (arith, c .if1 .taken))) refl
+
+returns-2 : tie.Need-returns-2 Inv-loop μ-loop
+returns-2 c = let a = c .before .before in rw (quoted-long _ _ (all a) _ (counted a .many) (omega (arith, c .before .if1 .left, c .if2 .taken)) (c .if2 .taken)) refl
+
+is-quote-requires : tie.Need-is-quote-requires Inv-loop μ-loop
+is-quote-requires c κs = search needs
+
+add-t12 : tie.Need-add-t12 Inv-loop μ-loop
+add-t12 c =
+    let a = c .before .before .before .before in
+    omega (arith, counted a .within, counted a .ends, a .before .before .before .before .good .1)
+
+returns-3 : tie.Need-returns-3 Inv-loop μ-loop
 unfolding kindOf
 returns-3 c =
-    let k = c .before in
-    let e = k .before .before .before in
-    let d = e .before .before in
-    let q = behind (s d) (place d) (stop d) (d .quoted-end .ensures) ∙ a-quote _ (k .class .ensures) (c .if4 .taken) in
-    rw (quoted-taken (drop (place d + 1) (s d)) _ (many d) (e .before .if1 .left) (e .if2 .left) q) refl
+    let e = c .before .before in
+    let a = e .before .before in
+    let q = behind a ∙ sym (c .before .is-quote .ensures) ∙ c .if3 .taken in
+    let size : length (doubled (counted a .found)) + 2 ≡ a .before .loop .e - a .before .before .before .before .args .at - 1 + 2 = omega (arith, counted a .ends) in
+    rw (quoted-taken _ _ (all a) _ (counted a .many) (omega (arith, e .before .if1 .left)) (e .if2 .left) q) (ap (λ n. Found.Token 3 n) (sym size))
 
-returns-4 : tie.Need-returns-4
+returns-4 : tie.Need-returns-4 Inv-loop μ-loop
 returns-4 c =
-    let k = c .before in
-    let e = k .before .before .before in
-    let d = e .before .before in
-    let b = behind (s d) (place d) (stop d) (d .quoted-end .ensures) in
-    let n = no-quote _ (k .class .ensures) (c .if4 .left) in
-    rw (quoted-open (drop (place d + 1) (s d)) _ (many d) (e .before .if1 .left) (e .if2 .left) (λ q. n (sym b ∙ q))) refl
-
-returns-5 : tie.Need-returns-5
-returns-5 c =
-    let e = c .before in
-    let d = e .before .before in
-    let b = behind (s d) (place d) (stop d) (d .quoted-end .ensures) in
-    let f = ended (s d) (place d) (stop d) (d .quoted-end .ensures) (c .if3 .left) in
-    rw (quoted-open (drop (place d + 1) (s d)) _ (many d) (e .before .if1 .left) (e .if2 .left) (λ q. f (sym b ∙ q))) refl
+    let e = c .before .before in
+    let a = e .before .before in
+    let q = behind a ∙ sym (c .before .is-quote .ensures) ∙ c .if3 .left in
+    rw (quoted-open _ _ (all a) _ (counted a .many) (omega (arith, e .before .if1 .left)) (e .if2 .left) q) refl
 
 pub quoted-spec : {M : Type 1} → statement M
 quoted-spec =
     tie.close
     (tie.spec
-    add-quoted-end
-    quoted-end-requires
-    sub-n
-    sub-n-2
+    Inv-loop
+    μ-loop
+    add-e
+    character-end-requires
+    loop-holds
+    add-n
+    character-end-requires-2
+    loop-less
+    loop-again
+    sub-written
+    sub-written-2
     returns
     returns-2
-    shared-slice-read-class
-    class-requires
+    is-quote-requires
     add-t12
     returns-3
-    returns-4
-    returns-5)
+    returns-4)

@@ -1,4 +1,4 @@
--- The tests tell the kinds apart; a symbol is an operator if its characters have a number below 8.
+-- The tests tell the kinds apart; a symbol is an operator if its bytes have a number below 8.
 use mathlib.Core.Path.{_≡_, ap, _∙_}
 use mathlib.Core.Logic.{inl, inr}
 use Prim.Native.Nat.{ℕ, _+_, _-_, _≤_}
@@ -6,8 +6,8 @@ use native.Mathlib.Omega.{arith}
 use lib.ListN.{length}
 use borrow.Author.Needs.{needs}
 use Rattle.rows.specs.Fields.{kind, start, size}
-use Rattle.rows.specs.Tokens.{charactersOf}
-use Rattle.rows.proofs.Stored.{part-ends, part-characters, stored-kinds}
+use Rattle.rows.specs.Tokens.{writtenOf}
+use Rattle.rows.proofs.Stored.{part-ends, part-written, stored-kinds}
 use Rattle.starting_operators.specs.Starting.{startNumber}
 use Rattle.starting_operators.proofs.Numbers.{beyond-unnumbered}
 use Rattle.starting_operators.proofs.NotedTokens.{stands}
@@ -30,7 +30,7 @@ is-quoted c =
     let (n, R, g, h) = e .pre .0 in
     omega (arith, c .before .before .before .before .before .kind .ensures, e .pre .1, stored-kinds (g .stored) (e .args .i) (stands g h))
 
--- Where its characters end, and which number they have.
+-- Where its bytes end, and which number they have.
 ends : (c : tie.After-size) → c .before .start .result + c .size .result ≤ length (entry c .args .text .now)
 ends c =
     let (n, R, g, h) = entry c .pre .0 in
@@ -38,11 +38,11 @@ ends c =
 
 numbered :
     (c : tie.After-number) → let a = entry (c .before .before .before) .args in
-    c .number .result ≡ startNumber (charactersOf (a .text .now) (a .tokens .now) (a .i))
+    c .number .result ≡ startNumber (writtenOf (a .text .now) (a .tokens .now) (a .i))
 numbered c =
     let s = c .before .before .before in
     let a = entry s .args in
-    c .number .ensures ∙ ap startNumber (part-characters _ (a .tokens .now) (a .i) (s .before .start .ensures) (s .size .ensures))
+    c .number .ensures ∙ ap startNumber (part-written _ (a .tokens .now) (a .i) (s .before .start .ensures) (s .size .ensures))
 
 add-e : tie.Need-add-e
 add-e c = omega (arith, ends (c .before), entry (c .before) .good .0)

@@ -1,13 +1,15 @@
--- The class says what the token is, and what is stored is what the operator with the number of its characters has; a number and a bracket
+-- The class says what the token is, and what is stored is what the operator with the number of its bytes has; a number and a bracket
 -- have four zeros.
 use mathlib.Core.Path.{_≡_, subst}
 use Prim.Native.Nat.{_+_, _≤_}
 use native.Mathlib.Omega.{arith}
 use lib.ListN.{length}
 use borrow.Author.Needs.{needs}
-use Rattle.rows.specs.Fields.{Within}
+use Rattle.grammar.proofs.Doubling.{IsDoubled}
+use Rattle.rows.specs.Fields.{Within, kind}
+use Rattle.rows.specs.Tokens.{writtenOf}
 use Rattle.rows.specs.declared.class.Class.{Class}
-use Rattle.rows.proofs.Stored.{part-ends, part-characters}
+use Rattle.rows.proofs.Stored.{part-ends, part-written, stored-doubled}
 use Rattle.rows.proofs.Noting.{symbol-item, name-item}
 use Rattle.starting_operators.specs.Starting.{IsClass, Unnumbered}
 use Rattle.starting_operators.proofs.NotedTokens.{stands, roles-within, symbol-noted, atom-notes, number-notes, bracket-notes}
@@ -17,13 +19,17 @@ use Rattle.starting_operators.proofs.notes.note.Tie as tie
 abbrev entry : tie.After-classify → tie.Start
 entry c = c .before .before .before .before
 
--- What the class says, the words of the token, and where the characters of a name end.
+-- What the class says, the words of the token, and where the bytes of a name end.
 says : (c : tie.After-classify) (x : Class) → c .classify .result ≡ x
     → let a = entry c .args in IsClass (a .text .now) (a .tokens .now) (a .i) x
 says c x e = let a = entry c .args in subst (IsClass (a .text .now) (a .tokens .now) (a .i)) e (c .classify .ensures)
 
 here : (c : tie.After-classify) → let a = entry c .args in Within 4 (a .roles .now) (a .i)
 here c = let e = entry c .pre .0 in roles-within (e .1) (e .2)
+
+doubled-here :
+    (c : tie.After-classify) → let a = entry c .args in kind (a .tokens .now) (a .i) ≡ 3 → IsDoubled (writtenOf (a .text .now) (a .tokens .now) (a .i))
+doubled-here c = let e = entry c .pre .0 in stored-doubled (e .1 .stored) _ (stands (e .1) (e .2))
 
 ends : (c : tie.After-start) → c .start .given .0 .0 + c .start .given .0 .1 .0 ≤ length (entry (c .before .before) .args .text .now)
 ends c =
@@ -66,7 +72,7 @@ returns-2 c =
     let a = entry d .args in
     let s = says d _ (n .start .given .1) in
     atom-notes _ _ _ _ _
-    (name-item _ _ _ _ _ _ Unnumbered (k .kind .ensures) (part-characters _ (a .tokens .now) (a .i) (s .0) (s .1)) (s .2) (o .note-name .ensures))
+    (name-item _ _ _ _ _ _ Unnumbered (k .kind .ensures) (part-written _ (a .tokens .now) (a .i) (s .0) (s .1)) (s .2) (doubled-here d) (o .note-name .ensures))
 
 returns-3 : tie.Need-returns-3
 returns-3 c =

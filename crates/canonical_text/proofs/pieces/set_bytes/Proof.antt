@@ -2,8 +2,8 @@
 use mathlib.Core.Path.{ap, _∙_}
 use borrow.Author.Needs.{needs}
 use Rattle.rows.specs.Fields.{store}
-use Rattle.canonical_text.proofs.pieces.set_characters.Statement.{statement}
-use Rattle.canonical_text.proofs.pieces.set_characters.Tie as tie
+use Rattle.canonical_text.proofs.pieces.set_bytes.Statement.{statement}
+use Rattle.canonical_text.proofs.pieces.set_bytes.Tie as tie
 
 set-start-requires : tie.Need-set-start-requires
 set-start-requires c κs = search needs
@@ -21,5 +21,5 @@ returns c =
     let a = f .before .before .before .args in
     s .set-size .ensures ∙ ap (λ K. store 4 2 K (a .i) (a .size)) (f .set-start .ensures)
 
-pub set-characters-spec : {M : Type 1} → statement M
-set-characters-spec = tie.close (tie.spec set-start-requires set-size-requires same-length returns)
+pub set-bytes-spec : {M : Type 1} → statement M
+set-bytes-spec = tie.close (tie.spec set-start-requires set-size-requires same-length returns)

@@ -8,8 +8,8 @@ use borrow.Table.Elements.{same-len}
 use lib.ListN.{length, drop}
 use lib.Seq.{length-take-le}
 use Rattle.short_buffers.specs.Room.{room}
-use Rattle.short_buffers.proofs.canonicalize_into.Statement.{statement}
-use Rattle.short_buffers.proofs.canonicalize_into.Tie as tie
+use Rattle.short_buffers.proofs.write_into.Statement.{statement}
+use Rattle.short_buffers.proofs.write_into.Tie as tie
 
 slice-aggregate-fill : tie.Need-slice-aggregate-fill
 slice-aggregate-fill c = search needs
@@ -20,24 +20,24 @@ fill-requires c κs = search needs
 array-borrow-prefix-buffer : tie.Need-array-borrow-prefix-buffer
 array-borrow-prefix-buffer c = search needs
 
-slice-aggregate-canonicalize : tie.Need-slice-aggregate-canonicalize
-slice-aggregate-canonicalize c =
-    let s = c .before .before .before .before .before in
+slice-aggregate-write : tie.Need-slice-aggregate-write
+slice-aggregate-write c =
+    let s = c .before .before .before .before .before .before in
     sym (length-take-le (s .args .len) (c .before .before .fill .last .0) (array-borrow-prefix-buffer (c .before)))
 
-canonicalize-requires : tie.Need-canonicalize-requires
-canonicalize-requires c κs = search needs
+write-requires : tie.Need-write-requires
+write-requires c κs = search needs
 
 -- The whole buffer before the call, how many of its bytes are lent, and the buffer after the call.
-abbrev buffer : tie.After-canonicalize → List ℕ
+abbrev buffer : tie.After-write → List ℕ
 buffer c = c .before .before .before .fill .last .0
 
-abbrev lent : tie.After-canonicalize → ℕ
-lent c = c .before .before .before .before .before .before .args .len
+abbrev lent : tie.After-write → ℕ
+lent c = c .before .before .before .before .before .before .before .args .len
 
-whole : (c : tie.After-canonicalize) → length (c .canonicalize .last .1 .0 ++ drop (lent c) (buffer c)) ≡ room
+whole : (c : tie.After-write) → length (c .write .last .1 .1 .0 ++ drop (lent c) (buffer c)) ≡ room
 whole c =
-    same-len (lent c) (buffer c) (c .canonicalize .last .1 .0) (c .canonicalize .kept .1 .0) ∙ c .before .before .before .fill .ensures .0
+    same-len (lent c) (buffer c) (c .write .last .1 .1 .0) (c .write .kept .1 .1 .0) ∙ c .before .before .before .fill .ensures .0
 
 slice-aggregate-widen : tie.Need-slice-aggregate-widen
 slice-aggregate-widen c = sym (whole (c .before .before))
@@ -54,29 +54,25 @@ slice-aggregate-report c = search needs
 slice-aggregate-report-2 : tie.Need-slice-aggregate-report-2
 slice-aggregate-report-2 c = search needs
 
-slice-aggregate-report-3 : tie.Need-slice-aggregate-report-3
-slice-aggregate-report-3 c = search needs
-
 report-requires : tie.Need-report-requires
 report-requires c κs = search needs
 
 returns : tie.Need-returns
 returns c = search needs
 
-pub canonicalize-into-spec : {M : Type 1} → statement M
-canonicalize-into-spec =
+pub write-into-spec : {M : Type 1} → statement M
+write-into-spec =
     tie.close
     (tie.spec
     slice-aggregate-fill
     fill-requires
     array-borrow-prefix-buffer
-    slice-aggregate-canonicalize
-    canonicalize-requires
+    slice-aggregate-write
+    write-requires
     slice-aggregate-widen
     slice-aggregate-widen-2
     widen-requires
     slice-aggregate-report
     slice-aggregate-report-2
-    slice-aggregate-report-3
     report-requires
     returns)
