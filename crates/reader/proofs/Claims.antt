@@ -9,9 +9,8 @@ use mathlib.Core.Path.{_≡_}
 use mathlib.Core.Logic.{_↔_}
 use mathlib.Core.Bool.{true}
 use mathlib.Core.List.{List, [], _∷_, _++_}
-use mathlib.Core.Option.{none, some}
 use Prim.Native.Nat.{ℕ, _≤_, _<_}
-use lib.ListN.{length, take, getD}
+use lib.ListN.{length, take}
 use Rattle.grammar.specs.Bytes.{Bytes}
 use Rattle.grammar.specs.Token.{Token, Atom, atom, structure, opening, characters, asWritten, spelling, isNumber, isToken}
 use Rattle.grammar.specs.Spelling.{Spells}
@@ -28,7 +27,7 @@ use Rattle.grammar.specs.Abstract.{Agree}
 use Rattle.grammar.specs.Canonical.{strip, stripDeclaration}
 use Rattle.grammar.specs.MatchingPair.{MatchingPair, remaining}
 use Rattle.grammar.specs.Fault.{current, withoutReserving, withFourConditions, longestText, Fault, Past, Unreserved, Conditioned}
-use Rattle.grammar.specs.Claim.{nodeAtoms, BlocksLawful, operatorsAmong, operatorsOf, FirstWithout, EmptyInside, TreeOf, ReadingOf, canonicalTree, canonicalBytes, Faithful}
+use Rattle.grammar.specs.Claim.{BlocksLawful, operatorsAmong, operatorsOf, FirstWithout, EmptyInside, TreeOf, ReadingOf, canonicalTree, canonicalBytes, Faithful}
 use Rattle.grammar.proofs.Numbers as Numbers
 use Rattle.grammar.proofs.Scanned as Scanned
 use Rattle.grammar.proofs.Names as Names
@@ -45,7 +44,7 @@ use Rattle.grammar.proofs.BlankRules as BlankRules
 use Rattle.grammar.proofs.ReservedRoles as ReservedRoles
 use Rattle.reader.specs.declared.Answer.{Answer}
 use Rattle.reader.specs.Answered.{written, Reads, Canonicalizes, nodeWritten, WritesName}
-use Rattle.reader.specs.Demands.{RightAnswer, TableFits, BufferFits, TableHolds, BufferHolds, RightReading, RightCanonical, OnlyReading, OnlyCanonical, Canonicalized, NameWritten}
+use Rattle.reader.specs.Demands.{RightAnswer, TableFits, BufferFits, TableHolds, BufferHolds, RightReading, RightCanonical, OnlyReading, OnlyCanonical, Canonicalized, AtomAt, NameWritten}
 use Rattle.reader.proofs.ReadCalls as ReadCalls
 use Rattle.reader.proofs.NameCalls as NameCalls
 use Rattle.reader.proofs.CanonicalCalls as CanonicalCalls
@@ -177,19 +176,18 @@ pub same-names :
     (a b : Atom) → isToken (atom a) ≡ true → isToken (atom b) ≡ true → (characters a ≡ characters b) ↔ (asWritten a ≡ asWritten b)
 same-names = Names.written-alike
 
--- So comparing the parts of two texts that two nodes give (`nodeWritten` is what `characters` hands out; `tree-held` says what it is) tells
--- names apart by characters, although a name's characters are not always a part of the text.
+-- `AtomAt text N k x`: node k of a table that `read` left for the text is that of the name, number or operator x. It gives the bytes as written
+-- (`tree-held`), and these are what `characters` hands out (`nodeWritten`). So comparing two such parts of texts tells names apart by their
+-- characters, although a name's characters are not always a part of the text.
 pub parts-compared :
-    (text : Bytes) (N N′ : List ℕ) (a : Answer) → Reads text N N′ a → a .number ≡ 0 → (t : Tree) → ReadingOf text t → (k : ℕ) (x : Atom)
-    → getD (nodeAtoms t) k none ≡ some x
-    → (other : Bytes) (M M′ : List ℕ) (b : Answer) → Reads other M M′ b → b .number ≡ 0 → (u : Tree) → ReadingOf other u → (l : ℕ) (y : Atom)
-    → getD (nodeAtoms u) l none ≡ some y → (nodeWritten text N′ k ≡ nodeWritten other M′ l) ↔ (characters x ≡ characters y)
+    (text other : Bytes) (N M : List ℕ) (k l : ℕ) (x y : Atom) → AtomAt text N k x → AtomAt other M l y
+    → (nodeWritten text N k ≡ nodeWritten other M l) ↔ (characters x ≡ characters y)
 parts-compared = NameCalls.parts-compared
 
--- `WritesName text N k B B′ r` is the promise of `write_name` for the node k of any table. Of a text that was read it writes the characters.
+-- `WritesName text N k B B′ r` is the promise of `write_name` for node k of any table. Of such a node it writes the characters.
 pub name-written :
-    (text : Bytes) (N N′ : List ℕ) (a : Answer) → Reads text N N′ a → a .number ≡ 0 → (t : Tree) → ReadingOf text t → (k : ℕ) (x : Atom)
-    → getD (nodeAtoms t) k none ≡ some x → (B B′ : List ℕ) (r : Answer) → WritesName text N′ k B B′ r → NameWritten x B B′ r
+    (text : Bytes) (N : List ℕ) (k : ℕ) (x : Atom) → AtomAt text N k x → (B B′ : List ℕ) (r : Answer) → WritesName text N k B B′ r
+    → NameWritten x B B′ r
 name-written = NameCalls.name-written
 
 -- Document 02, §6: "the sixth is the level at which it was read, and 0 for names, numbers, brackets and blocks. .. It must equal the level of the

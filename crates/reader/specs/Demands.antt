@@ -17,7 +17,7 @@ use Rattle.grammar.specs.NodePrecedence.{NodePrecedence}
 use Rattle.grammar.specs.Answer.{over}
 use Rattle.grammar.specs.Claim.{nodeAtoms, nodeBlocks, FromLetToIn, FirstWithout, ReadingUnder, ReadingOf, canonicalBytes}
 use Rattle.reader.specs.declared.Answer.{Answer}
-use Rattle.reader.specs.Answered.{refusedWith, written, nodeWritten, Canonicalizes}
+use Rattle.reader.specs.Answered.{refusedWith, written, Reads, nodeWritten, Canonicalizes}
 
 -- Demand 1, of a service whose own refusal has the number `own` and is given where a tree does not fit. `B` is the lent buffer before the
 -- call, `B′` after it. The rules that documents 01 and 02 set (`Rules`) are a parameter.
@@ -72,6 +72,16 @@ pub record TableHolds (text : Bytes) (N N′ : List ℕ) (c : ℕ) (t : Tree) : 
   pub precedences : (k : ℕ) → k < c → NodePrecedence text (flat t) N′ k
   -- "Words beyond the nodes keep their contents."
   pub behind : drop (wordsPerNode * c) N′ ≡ drop (wordsPerNode * c) N
+
+-- Node number `k` of a table that `read` left for the text is that of the name, number or operator `x`.
+pub record AtomAt (text : Bytes) (N : List ℕ) (k : ℕ) (x : Atom) : Type 0 where
+  pub before : List ℕ
+  pub answer : Answer
+  pub call : Reads text before N answer
+  pub success : answer .number ≡ 0
+  pub tree : Tree
+  pub reading : ReadingOf text tree
+  pub node : getD (nodeAtoms tree) k none ≡ some x
 
 -- 02, §5: what a call answers and leaves that writes the characters of a name, number or operator into the buffer `B`: their count; or 13 where
 -- the buffer is too short, and then no byte changes.

@@ -13,7 +13,8 @@ use Rattle.grammar.specs.Token.{inQuotes, isQuote, doubled}
 use Rattle.grammar.specs.Spelling.{Stops}
 use Rattle.grammar.specs.Scan.{charactersAt, charactersBehind}
 use Rattle.grammar.proofs.Logic.{below, clash}
-use Rattle.grammar.proofs.Doubling.{a-quote, doubled-other, doubled-append, doubled-length, characters-other, characters-bad, characters-pair, characters-closed}
+use Rattle.grammar.proofs.Doubling.{a-quote, doubled-other, doubled-append, doubled-length}
+use Rattle.grammar.proofs.Doubling.{characters-other, characters-bad, characters-pair, characters-closed}
 use Rattle.byte_strings.proofs.Suffixes.{drop-next}
 use Rattle.scanner.specs.Scanning.{firstSize}
 
@@ -43,21 +44,26 @@ first-is b front rest e d = record {
     size : firstSize (front ++ rest) ≡ length front
     size = one-sized (front ++ rest) b (charactersAt rest) e ∙ ap length d
 
-first-character : (u : Bytes) → (charactersAt u ≡ []) ⊎ FirstCharacter u
-unfolding charactersAt charactersBehind doubled isQuote
+-- Bytes have no character at the front, or a first one.
+abbrev NoneOrFirst : Bytes → Type 0
+NoneOrFirst u = (charactersAt u ≡ []) ⊎ FirstCharacter u
+
+behind-quote : (u : Bytes) → NoneOrFirst (39 ∷ u)
+unfolding doubled isQuote
+behind-quote [] = inl (characters-closed [] tt)
+behind-quote (b ∷ u) = go (isQuote b) refl
+  where
+    go : (x : Bool) → isQuote b ≡ x → NoneOrFirst (39 ∷ b ∷ u)
+    go true e = subst (λ q. NoneOrFirst (39 ∷ q ∷ u)) (sym (a-quote b e)) (inr (first-is 39 (39 ∷ 39 ∷ []) u (characters-pair u) refl))
+    go false e = inl (characters-closed (b ∷ u) e)
+
+first-character : (u : Bytes) → NoneOrFirst u
+unfolding charactersAt charactersBehind doubled
 first-character [] = inl refl
 first-character (b ∷ u) = go (isQuote b) (inQuotes b) refl refl
   where
-    behind : (v : Bytes) → (charactersAt (39 ∷ v) ≡ []) ⊎ FirstCharacter (39 ∷ v)
-    behind [] = inl (characters-closed [] tt)
-    behind (c ∷ v) = paired (isQuote c) refl
-      where
-        paired : (x : Bool) → isQuote c ≡ x → (charactersAt (39 ∷ c ∷ v) ≡ []) ⊎ FirstCharacter (39 ∷ c ∷ v)
-        paired true e = subst (λ q. (charactersAt (39 ∷ q ∷ v) ≡ []) ⊎ FirstCharacter (39 ∷ q ∷ v)) (sym (a-quote c e)) (inr (first-is 39 (39 ∷ 39 ∷ []) v (characters-pair v) refl))
-        paired false e = inl (characters-closed (c ∷ v) e)
-
-    go : (x y : Bool) → isQuote b ≡ x → inQuotes b ≡ y → (charactersAt (b ∷ u) ≡ []) ⊎ FirstCharacter (b ∷ u)
-    go true y e f = subst (λ q. (charactersAt (q ∷ u) ≡ []) ⊎ FirstCharacter (q ∷ u)) (sym (a-quote b e)) (behind u)
+    go : (x y : Bool) → isQuote b ≡ x → inQuotes b ≡ y → NoneOrFirst (b ∷ u)
+    go true y e f = subst (λ q. NoneOrFirst (q ∷ u)) (sym (a-quote b e)) (behind-quote u)
     go false true e f = inr (first-is b (b ∷ []) u (characters-other b u e f) (doubled-other b [] e))
     go false false e f = inl (characters-bad b u e f)
 
@@ -130,10 +136,11 @@ module _ {s : Bytes} {from place n next : ℕ} (v : Counted s from place n) (e :
   pub next-counted : place < next → Counted s from next (n + 1)
   next-counted l = go (first-character (drop place s))
     where
-      go : (charactersAt (drop place s) ≡ []) ⊎ FirstCharacter (drop place s) → Counted s from next (n + 1)
+      go : NoneOrFirst (drop place s) → Counted s from next (n + 1)
       go (inl f) = absurd (omega (arith, none-sized (drop place s) f))
       go (inr f) =
-          let behind : drop (firstSize (drop place s)) (drop place s) ≡ drop next s = drop-drop (firstSize (drop place s)) place s ∙ ap (λ k. drop k s) (sym e) in
+          let behind : drop (firstSize (drop place s)) (drop place s) ≡ drop next s =
+          drop-drop (firstSize (drop place s)) place s ∙ ap (λ k. drop k s) (sym e) in
           record {
             found = v .found ++ f .first ∷ [];
             characters =
@@ -155,6 +162,6 @@ module _ {s : Bytes} {from place n next : ℕ} (v : Counted s from place n) (e :
   pub all-counted : next ≤ place → charactersAt (drop from s) ≡ v .found
   all-counted l = v .characters ∙ ap (_++_ (v .found)) (go (first-character (drop place s))) ∙ append-nil (v .found)
     where
-      go : (charactersAt (drop place s) ≡ []) ⊎ FirstCharacter (drop place s) → charactersAt (drop place s) ≡ []
+      go : NoneOrFirst (drop place s) → charactersAt (drop place s) ≡ []
       go (inl f) = f
       go (inr f) = absurd (omega (arith, one-sized (drop place s) (f .first) _ (f .characters), doubled-length (f .first ∷ [])))

@@ -80,7 +80,9 @@ returns : tie.Need-returns Inv-loop μ-loop
 returns c = let a = c .before in rw (quoted-empty _ _ (all a) _ (counted a .many) (omega (arith, c .if1 .taken))) refl
 
 returns-2 : tie.Need-returns-2 Inv-loop μ-loop
-returns-2 c = let a = c .before .before in rw (quoted-long _ _ (all a) _ (counted a .many) (omega (arith, c .before .if1 .left, c .if2 .taken)) (c .if2 .taken)) refl
+returns-2 c =
+    let a = c .before .before in
+    rw (quoted-long _ _ (all a) _ (counted a .many) (omega (arith, c .before .if1 .left, c .if2 .taken)) (c .if2 .taken)) refl
 
 is-quote-requires : tie.Need-is-quote-requires Inv-loop μ-loop
 is-quote-requires c κs = search needs
@@ -96,7 +98,8 @@ returns-3 c =
     let e = c .before .before in
     let a = e .before .before in
     let q = behind a ∙ sym (c .before .is-quote .ensures) ∙ c .if3 .taken in
-    let size : length (doubled (counted a .found)) + 2 ≡ a .before .loop .e - a .before .before .before .before .args .at - 1 + 2 = omega (arith, counted a .ends) in
+    let at = a .before .before .before .before .args .at in
+    let size : length (doubled (counted a .found)) + 2 ≡ a .before .loop .e - at - 1 + 2 = omega (arith, counted a .ends) in
     rw (quoted-taken _ _ (all a) _ (counted a .many) (omega (arith, e .before .if1 .left)) (e .if2 .left) q) (ap (λ n. Found.Token 3 n) (sym size))
 
 returns-4 : tie.Need-returns-4 Inv-loop μ-loop
