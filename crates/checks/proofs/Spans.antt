@@ -11,14 +11,16 @@ use Rattle.grammar.specs.Outcome.{refused, passed, placed}
 use Rattle.grammar.specs.Scan.{Placed}
 use Rattle.grammar.specs.Declaration.{startTable}
 use Rattle.grammar.specs.Tree.{Tree}
-use Rattle.grammar.specs.Blocks.{checkBlocks, spans, treelessOpener, treeOf}
-use Rattle.grammar.specs.Answer.{Reading, tokensOf, readText, readSpans, spanOffset, spansOf, PastChecks}
+use Rattle.grammar.specs.Blocks.{checkBlocks, spans, treelessOpener, lostToken, treeOf}
+use Rattle.grammar.specs.Spans.{Span}
+use Rattle.grammar.specs.Answer.{Reading, tokensOf, readText, readSpans, offsetOf, spanOffset, spansOf, lostOffset, PastChecks}
 use Rattle.grammar.specs.Nodes.{count}
 use Rattle.grammar.proofs.Scanned.{length-tokens}
 use Rattle.grammar.proofs.SpanOrder.{treeless-within}
 use Rattle.grammar.proofs.Logic.{impossible}
 use Rattle.grammar.proofs.CheckedTrees.{checked-tree}
 use Rattle.grammar.proofs.ReadingTrees.{is-tree}
+use Rattle.grammar.proofs.LostPlaces.{lost-within}
 use Rattle.grammar.proofs.Readings.{past-reads, some-tokens, reading-of-tokens}
 use Rattle.rows.specs.Fields.{Holds}
 use Rattle.rows.specs.Tokens.{range}
@@ -26,27 +28,27 @@ use Rattle.rows.specs.Agreeing.{Agrees}
 use Rattle.rows.specs.Standing.{mark}
 use Rattle.rows.specs.Reading.{Ready}
 use Rattle.rows.proofs.Bounded.{bounded-start}
-use Rattle.climb.specs.Searched.{Rows, InForce, treeless, Checks}
+use Rattle.climb.specs.Searched.{Rows, InForce, treeless, treelessOf, Checks}
 use Rattle.climb.specs.Searched as Climb
 use Rattle.climb.specs.declared.spans.Spans.{Spans}
 use Rattle.climb.specs.declared.spans.Spans.the-variants as Answer
 use Rattle.checks.specs.declared.Checked.{Checked}
-use Rattle.checks.specs.declared.Checked.the-variants.{Passed, Refused}
-use Rattle.checks.specs.Checking.{Classified, offsetIn, Passes, Checking}
-use Rattle.checks.proofs.Stages.{offset-in, own-tokens, refusal}
+use Rattle.checks.specs.declared.Checked.the-variants.{NoTree, Passed}
+use Rattle.checks.specs.Checking.{Classified, offsetIn, refusalOf, Passes, Checking}
+use Rattle.checks.proofs.Stages.{offset-in, own-tokens}
 
--- The answers of the search tell the openers apart.
-treeless-same : (a b : Option ℕ) → treeless a ≡ treeless b → a ≡ b
+-- The answers of the search tell the openers and the tokens apart.
+treeless-same : (a b : Option ℕ) (k l : ℕ) → treeless a k ≡ treeless b l → (a ≡ b) × (k ≡ l)
 unfolding treeless
-treeless-same none none e = refl
-treeless-same none (some j) e = impossible cc
-treeless-same (some i) none e = impossible cc
-treeless-same (some i) (some j) e = ap some (cc e)
+treeless-same none none k l e = (refl, cc e)
+treeless-same none (some j) k l e = impossible cc
+treeless-same (some i) none k l e = impossible cc
+treeless-same (some i) (some j) k l e = (ap some (cc e), cc e)
 
-not-trees : {k at : ℕ} (o : Option ℕ) → treeless o ≡ Answer.Trees k at → ⊥
+not-trees : {k at : ℕ} (o : Option ℕ) (l : ℕ) → treeless o l ≡ Answer.Trees k at → ⊥
 unfolding treeless
-not-trees none e = impossible cc
-not-trees (some i) e = impossible cc
+not-trees none l e = impossible cc
+not-trees (some i) l e = impossible cc
 
 -- What is answered of a text with a token that is read.
 passes :
@@ -91,58 +93,63 @@ module _ {text : Bytes} {K R O : List ℕ} {n : ℕ} {nested : Bool} (v : Classi
     own-spans : spans (suc n) startTable none 0 (tokensOf ps) ≡ spansOf ps
     own-spans = ap (λ j. spans (suc j) startTable none 0 (tokensOf ps)) (v .matched .scanned .counted)
 
-    -- There is no tree, and the first span without one is named.
-    refuses : (o : Option ℕ) → r ≡ treeless o → (p : ℕ) → p ≡ spanOffset text ps o → ((t : Tree) → r ≡ treeless o → whole ≡ some t → ⊥)
-        → Checking text K R O′ (Refused 11 p)
-    unfolding readSpans
-    refuses o e p f never = go whole refl checks
+    -- There is no tree: which span has none, and where it is lost.
+    record Lost (o : Option ℕ) (k : ℕ) : Type 0 where
+      none-there : whole ≡ none
+      opener : treelessOpener (spansOf ps) ≡ o
+      lost : lostToken (spansOf ps) ≡ k
+
+    lost-by : (o : Option ℕ) (k : ℕ) → r ≡ treeless o k → Lost o k
+    unfolding treelessOf
+    lost-by o k e = go whole refl checks
       where
-        go : (w : Option Tree) → whole ≡ w → Checks text startTable K n O′ w r → Checking text K R O′ (Refused 11 p)
+        go : (w : Option Tree) → whole ≡ w → Checks text startTable K n O′ w r → Lost o k
         go none g c =
-            let same : treeless (treelessOpener (spansOf ps)) ≡ treeless o =
-            sym (c ∙ ap (λ ts. treeless (treelessOpener (spans (suc n) startTable none 0 ts))) (own-tokens (v .matched))
-            ∙ ap (λ ss. treeless (treelessOpener ss)) own-spans) ∙ e in
-            let opener : treelessOpener (spansOf ps) ≡ o = treeless-same _ o same in
-            refusal text K R O′ 11 p
-            (reads-whole ∙ ap (readSpans text ps) g ∙ ap (λ x. refused 11 (spanOffset text ps x)) opener ∙ ap (refused 11) (sym f))
-        go (some t) g c = absurd (never t e g)
+            let same = sym (c ∙ ap (λ ts. treelessOf (spans (suc n) startTable none 0 ts)) (own-tokens (v .matched)) ∙ ap treelessOf own-spans) ∙ e in
+            let (a, b) = treeless-same _ o _ k same in
+            record { none-there = g; opener = a; lost = b }
+        go (some t) g c = absurd (not-trees o k (sym e ∙ c .0 .1))
 
-    pub no-tree : r ≡ Answer.NoTree → Checking text K R O′ (Refused 11 0)
+    lost-place : (o : Option ℕ) (k : ℕ) → Lost o k → offsetIn text K n k ≡ offsetOf text ps (lostToken (spansOf ps))
+    lost-place o k l =
+        let within = lost-within text ps past (l .none-there) in
+        offset-in (v .matched .scanned) k (omega (arith, l .lost, v .matched .scanned .counted)) ∙ ap (offsetOf text ps) (sym (l .lost))
+
+    refuses :
+        (o : Option ℕ) (k : ℕ) → Lost o k → (p : ℕ) → p ≡ spanOffset text ps o → Checking text K R O′ (NoTree p (offsetIn text K n k))
+    unfolding readSpans refusalOf lostOffset
+    refuses o k l p f =
+        let reads : readText text ≡ refused 11 p =
+        reads-whole ∙ ap (readSpans text ps) (l .none-there) ∙ ap (λ x. refused 11 (spanOffset text ps x)) (l .opener) ∙ ap (refused 11) (sym f) in
+        rw reads (rw (v .matched .scanned .stored .scanned) (ap (NoTree p) (lost-place o k l)))
+
+    pub no-tree : (k : ℕ) → r ≡ Answer.NoTree k → Checking text K R O′ (NoTree 0 (offsetIn text K n k))
     unfolding treeless spanOffset
-    no-tree e = refuses none e 0 refl (λ t f g. never t g)
-      where
-        never : (t : Tree) → whole ≡ some t → ⊥
-        never t g = let c = subst (λ w. Checks text startTable K n O′ w r) g checks in let z = sym (c .0 .1) ∙ e in impossible cc
+    no-tree k e = refuses none k (lost-by none k e) 0 refl
 
-    pub no-tree-behind : (i : ℕ) → r ≡ Answer.NoTreeBehind i → Checking text K R O′ (Refused 11 (offsetIn text K n i))
+    pub no-tree-behind :
+        (i k : ℕ) → r ≡ Answer.NoTreeBehind i k → Checking text K R O′ (NoTree (offsetIn text K n i) (offsetIn text K n k))
     unfolding treeless spanOffset
-    no-tree-behind i e = refuses (some i) e (offsetIn text K n i) (offset-in (v .matched .scanned) i within) (λ t f g. never t g)
+    no-tree-behind i k e = refuses (some i) k l (offsetIn text K n i) (offset-in (v .matched .scanned) i within)
       where
-        never : (t : Tree) → whole ≡ some t → ⊥
-        never t g = let c = subst (λ w. Checks text startTable K n O′ w r) g checks in let z = sym (c .0 .1) ∙ e in impossible cc
-
-        opener : treelessOpener (spansOf ps) ≡ some i
-        opener = go whole refl checks
-          where
-            go : (w : Option Tree) → whole ≡ w → Checks text startTable K n O′ w r → treelessOpener (spansOf ps) ≡ some i
-            go none g c =
-                treeless-same _ (some i)
-                (sym (c ∙ ap (λ ts. treeless (treelessOpener (spans (suc n) startTable none 0 ts))) (own-tokens (v .matched))
-                ∙ ap (λ ss. treeless (treelessOpener ss)) own-spans) ∙ e)
-            go (some t) g c = absurd (never t g)
+        l : Lost (some i) k
+        l = lost-by (some i) k e
 
         within : i ≤ n
         within =
-            let l = treeless-within (suc (length ps)) startTable (tokensOf ps) (v .matched .nests) i opener in
+            let w = treeless-within (suc (length ps)) startTable (tokensOf ps) (v .matched .nests) i (l .opener) in
             omega (arith, v .matched .scanned .counted, length-tokens ps)
 
     -- There is one.
     pub trees : (k at : ℕ) → r ≡ Answer.Trees k at → Checking text K R O′ (Passed n k at)
-    unfolding readSpans treeless
+    unfolding readSpans treelessOf
     trees k at e = go whole refl checks
       where
+        all : List Span
+        all = spans (suc n) startTable none 0 (range text K 0 n)
+
         go : (w : Option Tree) → whole ≡ w → Checks text startTable K n O′ w r → Checking text K R O′ (Passed n k at)
-        go none g c = absurd (not-trees (treelessOpener (spans (suc n) startTable none 0 (range text K 0 n))) (sym c ∙ e))
+        go none g c = absurd (not-trees (treelessOpener all) (lostToken all) (sym c ∙ e))
         go (some t) g c =
             let reads : readText text ≡ passed (record { tokens = ps; tree = t }) = reads-whole ∙ ap (readSpans text ps) g in
             let z : Answer.Trees (count t) (c .0 .0) ≡ Answer.Trees k at = sym (c .0 .1) ∙ e in

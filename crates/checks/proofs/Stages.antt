@@ -6,7 +6,9 @@ use Prim.Native.Nat.{ℕ, zero, suc, _-_, _*_, _≤_, _<_}
 use native.Mathlib.Omega.{arith}
 use lib.Dec.{ltb}
 use lib.ListN.{length}
+use mathlib.Core.Logic.{⊎-elim}
 use borrow.Author.Tests.{ltb-true, ltb-false, lt-ltb, le-ltb, le-leb, eq-eqb, ne-eqb}
+use Rattle.grammar.proofs.RefusalNumbers.{scan-number, nesting-number, blocks-number}
 use Rattle.grammar.specs.Fault.{longestText, mostTokens}
 use Rattle.grammar.specs.Bytes.{Bytes}
 use Rattle.grammar.specs.Outcome.{Outcome, refused, passed, andThen, placed}
@@ -46,7 +48,7 @@ use Rattle.resolving.specs.Resolving.{Ranged, Resolves, Resolving}
 use Rattle.resolving.specs.declared.Resolved.{Resolved}
 use Rattle.resolving.specs.declared.Resolved.the-variants as Resolve
 use Rattle.checks.specs.declared.Checked.the-variants.{Blank, Refused}
-use Rattle.checks.specs.Checking.{Roomy, Checkable, Tokenized, Matched, Classified, offsetIn, Checking}
+use Rattle.checks.specs.Checking.{Roomy, Checkable, Tokenized, Matched, Classified, offsetIn, refusalOf, Checking}
 
 -- One number is below another, or not.
 by-order : {X : Type 0} (i n : ℕ) → (i < n → X) → (n ≤ i → X) → X
@@ -59,8 +61,10 @@ by-order {X} i n f g = go (ltb i n) refl
 pub positive : {n : ℕ} → (n ≡ 0 → ⊥) → 0 < n
 positive {n} f = by-order 0 n (λ l. l) (λ l. absurd (f (omega arith)))
 
-pub refusal : (text : Bytes) (K R O : List ℕ) (n p : ℕ) → readText text ≡ refused n p → Checking text K R O (Refused n p)
-refusal text K R O n p e = rw e refl
+-- A refusal other than 11.
+refusal : (text : Bytes) (K R O : List ℕ) (n p : ℕ) → (n ≡ 11 → ⊥) → readText text ≡ refused n p → Checking text K R O (Refused n p)
+unfolding refusalOf
+refusal text K R O n p d e = rw e (rw (ne-eqb n 11 d, refusalOf))
 
 short-reads : (text : Bytes) → length text ≤ longestText → readText text ≡ andThen (scan mostTokens 0 text) (readTokens text)
 unfolding readText
@@ -93,7 +97,7 @@ module _ (text : Bytes) (short : length text ≤ longestText) where
           let z : Scan.Refused m q ≡ Scan.Refused n p = sym g ∙ e in
           let x : m ≡ n = cc in
           let y : q ≡ p = cc in
-          refusal text K R O n p (short-reads text short ∙ rw (f, x, y))
+          refusal text K R O n p (λ d. omega (arith, scan-number mostTokens 0 text m q f)) (short-reads text short ∙ rw (f, x, y))
       go (passed ps) f g = let z = sym (g .1) ∙ e in impossible cc
 
 pub tokenized :
@@ -226,7 +230,8 @@ module _ {text : Bytes} {K R O : List ℕ} {n : ℕ} (t : Tokenized text K R O n
         let p = sym by-kinds ∙ nest-refused _ _ k i (sym (h .answer) ∙ e) in
         let l = nesting-place (tokensOf (t .placed)) k i p in
         let o = offset-in still-tokens i (omega (arith, t .counted, length-tokens (t .placed))) in
-        refusal text K′ A B k (offsetIn text K′ n i) (nested-reads p ∙ ap (refused k) (sym o))
+        let other : k ≡ 11 → ⊥ = λ d. omega (arith, nesting-number [] 0 (tokensOf (t .placed)) k i p) in
+        refusal text K′ A B k (offsetIn text K′ n i) other (nested-reads p ∙ ap (refused k) (sym o))
 
     pub matched : (blocks : Bool) → r ≡ Pair.Passed blocks → Matched text K′ R O n true × (blocks ≡ false → Unblocked K′ n)
     unfolding still-tokens
@@ -296,7 +301,9 @@ module _ {text : Bytes} {K R O : List ℕ} {n : ℕ} {nested : Bool} (m : Matche
             let p-i : p ≡ i = cc in
             let l = blocks-place (suc n) startTable (tokensOf own) x p (m .nests) b in
             let o = offset-in (m .scanned) i (omega (arith, m .scanned .counted, length-tokens own)) in
-            refusal text K R′ B k (offsetIn text K n i) (blocks-reads x p b ∙ cc (o, x-k, p-i))
+            let number = blocks-number (suc n) startTable 0 (tokensOf own) x p b in
+            let other : k ≡ 11 → ⊥ = λ d. ⊎-elim (λ l. omega (arith, x-k)) (λ l. omega (arith, x-k)) number in
+            refusal text K R′ B k (offsetIn text K n i) other (blocks-reads x p b ∙ cc (o, x-k, p-i))
         go (passed u) b v = let z = sym (v .0) ∙ e in impossible cc
 
     pub classified : r ≡ Resolve.Passed → Classified text K R′ O n nested

@@ -8,19 +8,19 @@ use lib.ListN.{length}
 use Rattle.grammar.specs.Fault.{longestText, mostTokens}
 use Rattle.grammar.specs.Bytes.{Bytes}
 use Rattle.grammar.specs.Outcome.{Outcome, refused, passed}
-use Rattle.grammar.specs.Scan.{Placed}
+use Rattle.grammar.specs.Scan.{Placed, scan}
 use Rattle.grammar.specs.Nesting.{nesting}
 use Rattle.grammar.specs.Declaration.{startTable}
 use Rattle.grammar.specs.Blocks.{checkBlocks}
 use Rattle.grammar.specs.Nodes.{count}
-use Rattle.grammar.specs.Answer.{Reading, tokensOf, readText}
+use Rattle.grammar.specs.Answer.{Reading, tokensOf, readText, lostOffset}
 use Rattle.rows.specs.Fields.{kind, start, Holds}
 use Rattle.rows.specs.Tokens.{Paired, Stored}
 use Rattle.rows.specs.Agreeing.{Agrees}
 use Rattle.rows.specs.Standing.{mark}
 use Rattle.rows.specs.Reading.{Ready}
 use Rattle.checks.specs.declared.Checked.{Checked}
-use Rattle.checks.specs.declared.Checked.the-variants.{Blank, Passed, Refused}
+use Rattle.checks.specs.declared.Checked.the-variants.{Blank, NoTree, Passed, Refused}
 
 -- The row has an entry of `w` words for each token that the text can have.
 abbrev pub Roomy : ℕ → Bytes → List ℕ → Type 0
@@ -72,10 +72,14 @@ Passes text K R O c r [] = c ≡ Blank
 Passes text K R O c r (p ∷ ps) =
     ((at : ℕ) × (c ≡ Passed (length (r .tokens)) (count (r .tree)) at) × (suc at ≡ mark 0 (r .tree))) × Ready text K R O r
 
--- What is answered: 01's number and place of a refusal, or that.
+-- A refusal: its number and place; of 11 the place of the span without a tree and that at which it is lost.
+unfoldable pub refusalOf : Bytes → ℕ → ℕ → Checked
+refusalOf text n p = elim (eqb n 11) [ true ↦ NoTree p (lostOffset text (scan mostTokens 0 text)) | false ↦ Refused n p ]
+
+-- What is answered: that, or what is answered of a text that is read.
 -- (What the rows hold after a refusal, and of a blank text, is not said: nobody reads them.)
 abbrev pub Outcomes : Bytes → List ℕ → List ℕ → List ℕ → Checked → Outcome Reading → Type 0
-Outcomes text K R O c (refused n p) = c ≡ Refused n p
+Outcomes text K R O c (refused n p) = c ≡ refusalOf text n p
 Outcomes text K R O c (passed r) = Passes text K R O c r (r .tokens)
 
 abbrev pub Checking : Bytes → List ℕ → List ℕ → List ℕ → Checked → Type 0

@@ -15,10 +15,8 @@ ghost use Prim.Native.Nat.{ℕ};
 ghost use Rattle.rows.specs.Tokens.{Unblocked};
 ghost use Rattle.checks.specs.Checking.{Checkable, Tokenized, Matched, Classified, offsetIn, Checking};
 
-// Refusal 11.
-pub const NO_TREE: u8 = 11;
-
-// How many tokens and nodes there are, and the root; the number and the place of a refusal; or that the text is blank.
+// How many tokens and nodes there are, and the root; the number and the place of a refusal; of 11 the place of the span without a tree and that
+// at which it is lost; or that the text is blank.
 pub enum Checked {
     Passed {
         tokens: usize,
@@ -28,6 +26,10 @@ pub enum Checked {
     Refused {
         number: u8,
         offset: usize,
+    },
+    NoTree {
+        span: usize,
+        lost: usize,
     },
     Blank,
 }
@@ -59,13 +61,13 @@ fn check_spans(
     ensures { λ r. ⌜ Checking (now (text .entry)) (now (tokens .entry)) (now (roles .entry)) (now (roots .exit)) r ⌝ }
 {
     match spans::check(tokens, roles, count, nested, roots) {
-        Spans::NoTree => Checked::Refused {
-            number: NO_TREE,
-            offset: 0,
+        Spans::NoTree { lost } => Checked::NoTree {
+            span: 0,
+            lost: offset_of(text, tokens, count, lost),
         },
-        Spans::NoTreeBehind { at } => Checked::Refused {
-            number: NO_TREE,
-            offset: offset_of(text, tokens, count, at),
+        Spans::NoTreeBehind { opener, lost } => Checked::NoTree {
+            span: offset_of(text, tokens, count, opener),
+            lost: offset_of(text, tokens, count, lost),
         },
         Spans::Trees { nodes, root } => Checked::Passed {
             tokens: count,

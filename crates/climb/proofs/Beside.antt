@@ -1,12 +1,11 @@
--- What is read off the rows, by cases: the token behind an item, and the number of the role in use of a span's root.
+-- What is read off the rows, by cases: the token behind an item.
 use mathlib.Core.Path.{_≡_}
 use mathlib.Core.List.{List}
 use Prim.Native.Nat.{ℕ, suc, _≤_, _<_}
 use native.Mathlib.Omega.{arith}
 use borrow.Author.Tests.{le-leb, lt-leb, eq-eqb, ne-eqb}
 use Rattle.rows.specs.Fields.{kind, closer}
-use Rattle.climb.specs.Beside.{itemEnd, roleOfRoot}
-use Rattle.rows.specs.InUse.{roleInUse}
+use Rattle.climb.specs.Beside.{itemEnd}
 
 -- The token behind an item.
 module _ (K : List ℕ) (i : ℕ) where
@@ -21,12 +20,3 @@ module _ (K : List ℕ) (i : ℕ) where
   pub end-block : 4 < kind K i → itemEnd K i ≡ suc (closer K (closer K i))
   unfolding itemEnd
   end-block h = rw (lt-leb (kind K i) 3 (omega arith), ne-eqb (kind K i) 4 (λ e. omega arith), itemEnd)
-
--- The number of the role in use of a span's root.
-pub root-none : (R O : List ℕ) (d : ℕ) → d ≡ 0 → roleOfRoot R O d ≡ 0
-unfolding roleOfRoot
-root-none R O d e = rw (e, roleOfRoot)
-
-pub root-use : (R O : List ℕ) (d a : ℕ) → d ≡ suc a → roleOfRoot R O d ≡ roleInUse R O a
-unfolding roleOfRoot
-root-use R O d a e = rw (e, roleOfRoot)

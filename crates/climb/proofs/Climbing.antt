@@ -3,18 +3,21 @@
 use mathlib.Core.Path.{_≡_, refl, sym, ap, _∙_}
 use mathlib.Core.Bool.{true, false}
 use mathlib.Core.Logic.{_⊎_, inl, inr}
-use mathlib.Core.List.{List, []}
+use mathlib.Core.List.{List, [], _∷_}
 use mathlib.Core.Option.{Option, none, some}
 use Prim.Native.Nat.{ℕ, suc, _+_, _≤_, _<_}
 use native.Mathlib.Omega.{arith}
+use lib.ListN.{length}
 use Rattle.grammar.specs.Bytes.{Bytes}
+use Rattle.grammar.specs.Token.{symbol}
 use Rattle.grammar.specs.Operator.{Role, Table, role}
-use Rattle.grammar.specs.Span.{Item, single, pair, scope, items}
-use Rattle.grammar.specs.SpanTree.{SpanTree, missing, operand, apply, present, roleOver, root, admitsBoth}
-use Rattle.grammar.specs.Climb.{Stack, empty, waiting, pushed, closed, run, checked, climb}
+use Rattle.grammar.specs.Span.{Item, single, pair, scope, itemTokens, items}
+use Rattle.grammar.specs.SpanTree.{SpanTree, missing, operand, apply, present, roleOver, root}
+use Rattle.grammar.specs.Climb.{Stack, empty, waiting, pushed, closed}
+use Rattle.grammar.specs.Climb.{takes, arrives, postfixLast, finish, Ending, stops, ending, climbFrom, unread, search}
+use Rattle.grammar.proofs.ClimbReached.{at}
 use Rattle.grammar.proofs.Logic.{impossible, clash}
-use Rattle.grammar.proofs.Climb.{admitted-test}
-use Rattle.rows.specs.Fields.{field, arrival, left, right}
+use Rattle.rows.specs.Fields.{field, arrival, left, right, prefix, infixed, postfix}
 use Rattle.rows.specs.Codes.{roleCode, roleOf, Fit, IsRole, Bounded, arrivalOf, givesWayTo}
 use Rattle.rows.specs.Tokens.{range}
 use Rattle.rows.specs.Agreeing.{Agrees}
@@ -23,24 +26,29 @@ use Rattle.rows.proofs.PairedCases.{agrees-paired, paired-ordered}
 use Rattle.rows.proofs.PairedItems.{items-done}
 use Rattle.climb.specs.declared.search.Found.the-variants.{Root}
 use Rattle.climb.specs.Searched.{width, spanMark, SpanRooted, Searches, InForce}
-use Rattle.climb.specs.Beside.{itemEnd, roleOfRoot}
+use Rattle.climb.specs.Beside.{itemEnd, arrivesAt}
 use Rattle.rows.specs.InUse.{roleBeside}
 use Rattle.climb.proofs.Roles.{fit-over, fit-root, gives-same, gives-last}
-use Rattle.climb.proofs.Pass.{Next, last, comes, run-operand, run-two, run-operator, pushed-waits, run-closes, not-admitted}
-use Rattle.climb.proofs.Coming.{operand-at, operator-at}
-use Rattle.climb.proofs.Waiting.{width-missing, width-operand, width-apply, mark-within, mark-most, Same, Built, WaitsAt, Waits, waits-behind, built-kept, waits-kept, over-code, root-code}
+use Rattle.climb.proofs.Pass.{Next, last, comes, pass-operand, pass-untaken, pass-two, pass-waits, pass-refuses, pushed-waits, pass-closes, AllTake, arrives-takes, final-left}
+use Rattle.climb.proofs.Coming.{OperatorAt, operand-at, operator-at}
+use Rattle.climb.proofs.Waiting.{width-missing, width-operand, width-apply, mark-within, mark-most, Same, Built, WaitsAt, Waits, waits-behind, built-kept, waits-kept, over-code, taking-code}
+use Rattle.climb.proofs.Arrives.{widest, TakingCode, taking-is-role, untaken, taken, roles-are, arrives-same}
 
 -- The innermost operator that waits does not give way, if one waits.
 abbrev pub Stops : List ℕ → List ℕ → ℕ → ℕ → ℕ → Type 0
 Stops R O h d v = (h ≡ 0) ⊎ ((a : ℕ) × (h ≡ suc a) × (givesWayTo (roleOf (roleBeside R a (left O a) d)) v ≡ false))
 
 module _ (text : Bytes) (T : Table) (K R : List ℕ) (from to : ℕ) where
-  abbrev pub found : Option SpanTree
-  found = climb T (items (range text K from to))
+  abbrev pub found : Ending
+  found = search T from (items (range text K from to))
+
+  -- The pass stops at token `i`.
+  abbrev pub Halts : ℕ → Type 0
+  Halts i = found ≡ stops i
 
   -- `h` is one more than the innermost operator that waits, `d` one more than the root of what has been read, 0 for none, and `q` the
-  -- number of that root's role; `i` is the token that comes.
-  pub record Climbing (O : List ℕ) (h d q i : ℕ) : Type 0 where
+  -- number of that root's role, `k` that of the role in which what waits takes an operand; `i` is the token that comes.
+  pub record Climbing (O : List ℕ) (h d q k i : ℕ) : Type 0 where
     pub stack : Stack
     pub current : SpanTree
     pub start : ℕ
@@ -50,7 +58,11 @@ module _ (text : Bytes) (T : Table) (K R : List ℕ) (from to : ℕ) where
     pub inner : q ≡ roleCode (root T current)
     pub behind : i ≡ start + width current
     pub rest : Agrees text K R T i to
-    pub finds : found ≡ checked T (run T stack current (items (range text K i to)))
+    pub isRole : IsRole k
+    pub takesBy : d ≡ 0 → TakingCode T stack k
+    pub isTaken : present current ≡ true → takes T stack ≡ true
+    pub allTake : AllTake T stack
+    pub finds : found ≡ climbFrom T i (at stack current) (items (range text K i to))
 
   -- The same with the innermost operator that waits taken off, at token `a`.
   pub record Top (O : List ℕ) (d q i a : ℕ) : Type 0 where
@@ -66,32 +78,38 @@ module _ (text : Bytes) (T : Table) (K R : List ℕ) (from to : ℕ) where
     pub inner : q ≡ roleCode (root T current)
     pub behind : i ≡ suc a + width current
     pub rest : Agrees text K R T i to
-    pub finds : found ≡ checked T (run T (waiting before name outer) current (items (range text K i to)))
+    pub isTaken : present current ≡ true → takes T (waiting before name outer) ≡ true
+    pub allTake : AllTake T (waiting before name outer)
+    pub finds : found ≡ climbFrom T i (at (waiting before name outer) current) (items (range text K i to))
 
-  pub begins : (O : List ℕ) → InForce text T K R from to → Climbing O 0 0 0 from
-  unfolding climb spanMark root roleCode
+  pub begins : (O : List ℕ) → InForce text T K R from to → Climbing O 0 0 0 widest from
+  unfolding search unread spanMark root roleCode present
   begins O f =
       record {
         stack = empty;
         current = missing;
         start = from;
         chain = (refl, refl);
-        built = record { rooted = tt; rootAt = tt; admitted = tt };
+        built = record { rooted = tt };
         mark = refl;
         inner = refl;
         behind = omega (arith, width-missing);
         rest = f .agrees;
+        isRole = taking-is-role T (f .bounded) empty widest refl;
+        takesBy = λ e. refl;
+        isTaken = λ e. absurd (clash e refl);
+        allTake = tt;
         finds = refl;
       }
 
-  pub top : (O : List ℕ) (h d q i a : ℕ) → Climbing O h d q i → h ≡ suc a → Top O d q i a
-  top O h d q i a x e = go (x .stack) (x .chain) (x .finds)
+  pub top : (O : List ℕ) (h d q k i a : ℕ) → Climbing O h d q k i → h ≡ suc a → Top O d q i a
+  top O h d q k i a x e = go (x .stack) (x .chain) (x .isTaken) (x .allTake) (x .finds)
     where
       go :
-          (w : Stack) → Waits T R from O w h (x .start) → found ≡ checked T (run T w (x .current) (items (range text K i to)))
-          → Top O d q i a
-      go empty c f = absurd (omega arith)
-      go (waiting l m w) (s, b, p, g, t, c) f =
+          (w : Stack) → Waits T R from O w h (x .start) → (present (x .current) ≡ true → takes T w ≡ true) → AllTake T w
+          → found ≡ climbFrom T i (at w (x .current)) (items (range text K i to)) → Top O d q i a
+      go empty c u v f = absurd (omega arith)
+      go (waiting l m w) (s, b, p, g, t, c) u v f =
           let same : b ≡ a = omega arith in
           let here : x .start ≡ suc a = omega arith in
           record {
@@ -107,12 +125,14 @@ module _ (text : Bytes) (T : Table) (K R : List ℕ) (from to : ℕ) where
             inner = x .inner;
             behind = rw here at (x .behind);
             rest = x .rest;
+            isTaken = u;
+            allTake = v;
             finds = f;
           }
 
   -- Where things stand.
-  pub bounds : (O : List ℕ) (h d q i : ℕ) → Climbing O h d q i → (from ≤ i) × (i ≤ to) × (h ≤ i) × (d ≤ i)
-  bounds O h d q i x =
+  pub bounds : (O : List ℕ) (h d q k i : ℕ) → Climbing O h d q k i → (from ≤ i) × (i ≤ to) × (h ≤ i) × (d ≤ i)
+  bounds O h d q k i x =
       let b = waits-behind T R from O (x .stack) h (x .start) (x .chain) in
       let m = mark-most (x .start) (x .current) in
       (omega (arith, x .behind), paired-ordered (agrees-paired (x .rest)), omega (arith, x .behind), omega (arith, x .behind, x .mark))
@@ -121,12 +141,6 @@ module _ (text : Bytes) (T : Table) (K R : List ℕ) (from to : ℕ) where
   top-bounds O d q i a x =
       let b = waits-behind T R from O (x .outer) (right O a) (x .start) (x .chain) in
       (omega (arith, x .waitsAt .place), omega (arith, x .behind), omega (arith, x .waitsAt .place))
-
-  pub own-bound : (O : List ℕ) (d q i a b : ℕ) → Top O d q i a → left O a ≡ suc b → (from ≤ b) × (b < a)
-  own-bound O d q i a b x e =
-      let c = waits-behind T R from O (x .outer) (right O a) (x .start) (x .chain) in
-      let m = mark-within (x .start) (x .before) b (sym (x .waitsAt .own) ∙ e) in
-      (omega arith, omega (arith, x .waitsAt .place))
 
   -- An operand comes behind another one.
   shown : (s : SpanTree) (i : ℕ) → (spanMark i s ≡ 0 → ⊥) → present s ≡ true
@@ -141,14 +155,20 @@ module _ (text : Bytes) (T : Table) (K R : List ℕ) (from to : ℕ) where
   absent (operand x) i e = impossible cc
   absent (apply l m r) i e = impossible cc
 
-  pub refuses : (O : List ℕ) (h d q i : ℕ) → Climbing O h d q i → i < to → arrival R i ≡ 0 → (d ≡ 0 → ⊥) → found ≡ none
-  unfolding checked
-  refuses O h d q i x l e n =
+  pub refuses :
+      (O : List ℕ) (h d q k i : ℕ) → Climbing O h d q k i → i < to → arrival R i ≡ 0 → (d ≡ 0 → ⊥) → Halts i
+  refuses O h d q k i x l e n =
       let y = operand-at (x .rest) l e in
       let s = shown (x .current) (x .start) (λ z. n (x .mark ∙ z)) in
-      let z : run T (x .stack) (x .current) (items (range text K i to)) ≡ none =
-      rw (y .comes) (run-two T (x .stack) (x .current) (y .item) _ (y .isOne) s) in
-      x .finds ∙ ap (checked T) z
+      x .finds ∙ rw (y .comes) (pass-two T i (x .stack) (x .current) (y .item) _ (y .isOne) s)
+
+  -- An operand comes, and is not taken.
+  pub untaken-here :
+      (O : List ℕ) (h d q k i : ℕ) → Bounded T → Climbing O h d q k i → i < to → arrival R i ≡ 0 → d ≡ 0 → k ≡ 0 → Halts i
+  untaken-here O h d q k i b x l e n z =
+      let y = operand-at (x .rest) l e in
+      let o = absent (x .current) (x .start) (sym (x .mark) ∙ n) in
+      x .finds ∙ rw (y .comes, o) (pass-untaken T i (x .stack) (y .item) _ (y .isOne) (untaken T b (x .stack) k (x .takesBy n) z))
 
   -- An operand comes behind none.
   single-rooted : (O : List ℕ) (i : ℕ) (x : Item) → left O i ≡ 0 → right O i ≡ 0 → SpanRooted O i (operand x)
@@ -156,26 +176,31 @@ module _ (text : Bytes) (T : Table) (K R : List ℕ) (from to : ℕ) where
   single-rooted O i (pair ts) e f = tt
   single-rooted O i (scope ds ts) e f = tt
 
-  pub takes :
-      (O O′ : List ℕ) (h d q i : ℕ) → Climbing O h d q i → i < to → arrival R i ≡ 0 → d ≡ 0 → left O′ i ≡ 0 → right O′ i ≡ 0 → Same O O′ from i
-      → Climbing O′ h (suc i) 0 (itemEnd K i)
+  pub takes-operand :
+      (O O′ : List ℕ) (h d q k i : ℕ) → Bounded T → Climbing O h d q k i → i < to → arrival R i ≡ 0 → d ≡ 0 → (k ≡ 0 → ⊥) → left O′ i ≡ 0 → right O′ i ≡ 0
+      → Same O O′ from i → Climbing O′ h (suc i) 0 k (itemEnd K i)
   unfolding spanMark root roleCode
-  takes O O′ h d q i x l e n p r f =
+  takes-operand O O′ h d q k i b x l e n z p r f =
       let y = operand-at (x .rest) l e in
       let o = absent (x .current) (x .start) (sym (x .mark) ∙ n) in
       let here : i ≡ x .start = omega (arith, x .behind, ap width o, width-missing) in
       let kept = waits-kept T R from O O′ (x .stack) h (x .start) (λ k j a b c. f k j a b (omega arith)) (x .chain) in
+      let t = taken T b (x .stack) k (x .takesBy n) z in
       record {
         stack = x .stack;
         current = operand (y .item);
         start = i;
         chain = rw here kept;
-        built = record { rooted = single-rooted O′ i (y .item) p r; rootAt = e; admitted = y .isOne };
+        built = record { rooted = single-rooted O′ i (y .item) p r };
         mark = refl;
         inner = refl;
         behind = y .behind ∙ ap (λ n. i + n) (sym (width-operand (y .item)));
         rest = y .rest;
-        finds = x .finds ∙ ap (checked T) (rw (o, y .comes) (run-operand T (x .stack) (y .item) _ (y .isOne)));
+        isRole = x .isRole;
+        takesBy = λ w. absurd (omega arith);
+        isTaken = λ w. t;
+        allTake = x .allTake;
+        finds = x .finds ∙ rw (o, y .comes) (pass-operand T i (itemEnd K i) (x .stack) (y .item) _ (y .behind) (y .isOne) t);
       }
 
   module _ (b : Bounded T) where
@@ -199,47 +224,24 @@ module _ (text : Bytes) (T : Table) (K R : List ℕ) (from to : ℕ) where
       code =
           over-code T R a (x .name) (x .waitsAt .operates) (x .before) (x .current) (left O a) d (x .start) (suc a) (x .waitsAt .own) (x .mark)
 
-      pub own-code : roleOfRoot R O (left O a) ≡ roleCode (root T (x .before))
-      own-code = rw (x .waitsAt .own) (root-code T R O (x .start) (x .before) (x .waitsAt .before))
-
       in-role : roleOf (roleBeside R a (left O a) d) ≡ roleOver T (x .before) (x .name) (x .current)
       in-role = ap roleOf code ∙ role-code (roleOver T (x .before) (x .name) (x .current)) (fit-over T b (x .before) (x .name) (x .current))
 
       pub is-role : IsRole (roleBeside R a (left O a) d)
       is-role = rw code (code-role (roleOver T (x .before) (x .name) (x .current)) (fit-over T b (x .before) (x .name) (x .current)))
 
-      pub is-own-role : IsRole (roleOfRoot R O (left O a))
-      is-own-role = rw own-code (code-role (root T (x .before)) (fit-root T b (x .before)))
-
-      pub is-inner : IsRole q
-      is-inner = rw (x .inner) (code-role (root T (x .current)) (fit-root T b (x .current)))
-
-      -- Whether it admits its operands.
-      test :
-          admitsBoth (roleOf (roleBeside R a (left O a) d)) (roleOf (roleOfRoot R O (left O a))) (roleOf q)
-          ≡ admitsBoth (roleOver T (x .before) (x .name) (x .current)) (root T (x .before)) (root T (x .current))
-      test =
-          rw (in-role, own-code, x .inner, role-code (root T (x .before)) (fit-root T b (x .before)), role-code (root T (x .current)) (fit-root T b (x .current)))
-
       module _ (v : ℕ) (n : Next T (items (range text K i to)) v) (g : givesWayTo (roleOf (roleBeside R a (left O a) d)) v ≡ true) where
-        finds-closed : found ≡ checked T (run T (x .outer) (apply (x .before) (x .name) (x .current)) (items (range text K i to)))
+        finds-closed : found ≡ climbFrom T i (at (x .outer) (apply (x .before) (x .name) (x .current))) (items (range text K i to))
         finds-closed =
-            x .finds ∙ ap (checked T) (run-closes T (x .before) (x .name) (x .outer) (x .current) b _ v n (rw in-role at g))
+            x .finds ∙ pass-closes T (x .before) (x .name) (x .outer) (x .current) b i _ v n (rw in-role at g)
 
-        -- It does not: there is no tree.
-        pub not-closed :
-            admitsBoth (roleOf (roleBeside R a (left O a) d)) (roleOf (roleOfRoot R O (left O a))) (roleOf q) ≡ false → found ≡ none
-        not-closed e =
-            not-admitted T (items (range text K from to)) (items (range text K i to)) (x .outer) (apply (x .before) (x .name) (x .current))
-            finds-closed (λ z. clash (z .2) (sym test ∙ e))
-
-        -- It does: it closes, and is what has been read.
+        -- It closes, and is what has been read.
         pub closes :
-            admitsBoth (roleOf (roleBeside R a (left O a) d)) (roleOf (roleOfRoot R O (left O a))) (roleOf q) ≡ true → (h : ℕ) → h ≡ suc a → (O′ : List ℕ)
+            (h : ℕ) → h ≡ suc a → (O′ : List ℕ)
             → right O′ a ≡ d → left O′ a ≡ left O a → ((k j : ℕ) → k < 2 → (a ≡ j → ⊥) → field 2 k O′ j ≡ field 2 k O j)
-            → Climbing O′ (right O a) h (roleBeside R a (left O a) d) i
+            → (k : ℕ) → IsRole k → Climbing O′ (right O a) h (roleBeside R a (left O a) d) k i
         unfolding spanMark root
-        closes e h y O′ p r f =
+        closes h y O′ p r f k role =
             let w = x .waitsAt in
             let l = w .before in
             let place = w .place in
@@ -256,17 +258,19 @@ module _ (text : Bytes) (T : Table) (K R : List ℕ) (from to : ℕ) where
                       built-kept T R O O′ (x .start) (x .before) (λ k j y z u. f k j y (λ s. omega arith)) l .rooted,
                       built-kept T R O O′ (suc a) (x .current) (λ k j y z u. f k j y (λ s. omega arith)) (x .built) .rooted,
                     );
-                rootAt = rw (← place) (w .operates);
-                admitted = (l .admitted, x .built .admitted, sym test ∙ e);
               };
               mark = y ∙ ap suc place;
               inner = code;
               behind = omega (arith, x .behind, width-apply (x .before) (x .name) (x .current));
               rest = x .rest;
+              isRole = role;
+              takesBy = λ z. absurd (omega arith);
+              isTaken = λ z. x .allTake .0;
+              allTake = x .allTake .1;
               finds = finds-closed;
             }
 
-    module _ (O : List ℕ) (h d q i : ℕ) (x : Climbing O h d q i) where
+    module _ (O : List ℕ) (h d q k i : ℕ) (x : Climbing O h d q k i) where
       -- So the operator that comes waits.
       stays :
           (v : ℕ) → Stops R O h d v → (m : Bytes) → v ≡ arrivalOf (role T m) → pushed T m (x .stack) (x .current) ≡ waiting (x .current) m (x .stack)
@@ -291,41 +295,67 @@ module _ (text : Bytes) (T : Table) (K R : List ℕ) (from to : ℕ) where
               not-given (inl z) = absurd (omega arith)
               not-given (inr (a′, z, f)) = let same : a′ ≡ a = omega arith in rw (← own, ← same) f
 
-      pub waits :
-          (v : ℕ) → Stops R O h d v → i < to → v ≡ arrival R i → (v ≡ 0 → ⊥) → (O′ : List ℕ) → left O′ i ≡ d → right O′ i ≡ h → Same O O′ from i
-          → Climbing O′ (suc i) 0 0 (suc i)
-      unfolding spanMark root roleCode
-      waits v s l e n O′ p r f =
-          let y = operator-at (x .rest) l (λ z. n (e ∙ z)) in
-          let bound = waits-behind T R from O (x .stack) h (x .start) (x .chain) in
-          let place = x .behind in
-          let w = stays v s (y .name) (e ∙ y .number) in
-          let z : run T (x .stack) (x .current) (items (range text K i to)) ≡ run T (waiting (x .current) (y .name) (x .stack)) missing (items (range text K (suc i) to)) =
-          rw (y .comes, ← w) (run-operator T (x .stack) (x .current) (y .name) (items (range text K (suc i) to)) (y .isOne)) in
-          record {
-            stack = waiting (x .current) (y .name) (x .stack);
-            current = missing;
-            start = suc i;
-            chain = (
-              x .start,
-              i,
-              refl,
-              refl,
-              record {
-                place = place;
-                before = built-kept T R O O′ (x .start) (x .current) (λ k j t u c. f k j t (omega arith) (omega arith)) (x .built);
-                operates = record { noted = y .noted; isOne = λ z. n (e ∙ z) };
-                own = p ∙ x .mark;
-              },
-              rw r (waits-kept T R from O O′ (x .stack) h (x .start) (λ k j t u c. f k j t u (omega arith)) (x .chain)),
-            );
-            built = record { rooted = tt; rootAt = tt; admitted = tt };
-            mark = refl;
-            inner = refl;
-            behind = omega (arith, width-missing);
-            rest = y .rest;
-            finds = x .finds ∙ ap (checked T) z;
-          }
+      -- The numbers by which it is tested, and the test.
+      pub are-roles : i < to → (arrival R i ≡ 0 → ⊥) → IsRole (prefix R i) × IsRole (infixed R i) × IsRole (postfix R i)
+      are-roles l n = let y = operator-at (x .rest) l n in roles-are T b R i (y .name) (y .noted)
+
+      pub inner-is : IsRole q
+      inner-is = rw (x .inner) (code-role (root T (x .current)) (fit-root T b (x .current)))
+
+      tested : (l : i < to) (n : arrival R i ≡ 0 → ⊥) → arrivesAt R i d q k ≡ arrives T (x .current) (operator-at (x .rest) l n .name) (x .stack)
+      tested l n =
+          let y = operator-at (x .rest) l n in
+          arrives-same T b R i (y .name) (y .noted) (x .current) (x .stack) (x .start) d q k (x .mark) (x .inner) (x .takesBy)
+
+      module _ (v : ℕ) (s : Stops R O h d v) (l : i < to) (e : v ≡ arrival R i) (n : v ≡ 0 → ⊥) where
+        abbrev come : OperatorAt text T K R i to
+        come = operator-at (x .rest) l (λ z. n (e ∙ z))
+
+        keeps : pushed T (come .name) (x .stack) (x .current) ≡ waiting (x .current) (come .name) (x .stack)
+        keeps = stays v s (come .name) (e ∙ come .number)
+
+        pub refused-here : arrivesAt R i d q k ≡ false → Halts i
+        refused-here t =
+            x .finds ∙ rw (come .comes) (pass-refuses T i (x .stack) (x .current) (come .name) _ (come .isOne) keeps (sym (tested l (λ z. n (e ∙ z))) ∙ t))
+
+        pub waits :
+            arrivesAt R i d q k ≡ true → (O′ : List ℕ) → left O′ i ≡ d → right O′ i ≡ h → Same O O′ from i
+            → Climbing O′ (suc i) 0 0 (roleBeside R i d 1) (suc i)
+        unfolding spanMark root roleCode present
+        waits a O′ p r f =
+            let y = come in
+            let ok = sym (tested l (λ z. n (e ∙ z))) ∙ a in
+            let bound = waits-behind T R from O (x .stack) h (x .start) (x .chain) in
+            let place = x .behind in
+            let by = taking-code T R i (y .name) (y .noted) (x .current) d (x .start) (x .mark) in
+            record {
+              stack = waiting (x .current) (y .name) (x .stack);
+              current = missing;
+              start = suc i;
+              chain = (
+                x .start,
+                i,
+                refl,
+                refl,
+                record {
+                  place = place;
+                  before = built-kept T R O O′ (x .start) (x .current) (λ k j t u c. f k j t (omega arith) (omega arith)) (x .built);
+                  operates = record { noted = y .noted; isOne = λ z. n (e ∙ z) };
+                  own = p ∙ x .mark;
+                },
+                rw r (waits-kept T R from O O′ (x .stack) h (x .start) (λ k j t u c. f k j t u (omega arith)) (x .chain)),
+              );
+              built = record { rooted = tt };
+              mark = refl;
+              inner = refl;
+              behind = omega (arith, width-missing);
+              rest = y .rest;
+              isRole = taking-is-role T b (waiting (x .current) (y .name) (x .stack)) (roleBeside R i d 1) by;
+              takesBy = λ z. by;
+              isTaken = λ z. absurd (clash z refl);
+              allTake = (arrives-takes T (x .current) (y .name) (x .stack) (x .isTaken) ok, x .allTake);
+              finds = x .finds ∙ rw (y .comes) (pass-waits T i (x .stack) (x .current) (y .name) _ (y .isOne) keeps ok);
+            }
 
     -- Nothing more comes, and an operator waits in no role.
     no-role-none : (o : Option Role) → Fit o → givesWayTo o 2047 ≡ false → o ≡ none
@@ -333,34 +363,32 @@ module _ (text : Bytes) (T : Table) (K R : List ℕ) (from to : ℕ) where
     no-role-none (some q) f e = absurd (clash (gives-last q (f .1)) e)
 
     pub left-over :
-        (O : List ℕ) (d q i a : ℕ) → Top O d q i a → to ≤ i → givesWayTo (roleOf (roleBeside R a (left O a) d)) 2047 ≡ false → found ≡ none
-    unfolding run closed admitsBoth
+        (O : List ℕ) (d q i a : ℕ) → Top O d q i a → to ≤ i → givesWayTo (roleOf (roleBeside R a (left O a) d)) 2047 ≡ false → Halts i
+    unfolding climbFrom ending
     left-over O d q i a x l g =
-        let s = apply (x .before) (x .name) (x .current) in
-        let none-left = nothing-left i (x .rest) l in
         let o = no-role-none _ (fit-over T b (x .before) (x .name) (x .current)) (rw (in-role O d q i a x) at g) in
-        let z : found ≡ checked T (run T (x .outer) s []) = rw none-left at (x .finds) in
-        not-admitted T (items (range text K from to)) [] (x .outer) s z (λ y. clash (rw o at (y .2)) refl)
+        let e = final-left T (x .before) (x .name) (x .outer) (x .current) (x .isTaken) o in
+        x .finds ∙ rw (nothing-left i (x .rest) l, e)
 
     -- Nothing more comes, and none waits: what has been read is the tree, if anything has.
     alone : (O : List ℕ) (w : Stack) (h e : ℕ) → Waits T R from O w h e → h ≡ 0 → (w ≡ empty) × (e ≡ from)
     alone O empty h e c z = (refl, c .1)
     alone O (waiting l m w) h e c z = absurd (omega (arith, c .2))
 
-    module _ (O : List ℕ) (h d q i : ℕ) (x : Climbing O h d q i) (l : to ≤ i) (z : h ≡ 0) where
-      finds-read : found ≡ checked T (some (x .current))
-      unfolding run closed
-      finds-read = let f = rw (alone O (x .stack) h (x .start) (x .chain) z .0, nothing-left i (x .rest) l) at (x .finds) in f
+    module _ (O : List ℕ) (h d q k i : ℕ) (x : Climbing O h d q k i) (l : to ≤ i) (z : h ≡ 0) where
+      finds-read : found ≡ ending i (finish T (at empty (x .current)))
+      unfolding climbFrom
+      finds-read = x .finds ∙ rw (nothing-left i (x .rest) l, alone O (x .stack) h (x .start) (x .chain) z .0)
 
-      pub nothing-read : d ≡ 0 → found ≡ none
-      unfolding checked present
-      nothing-read e = rw (absent (x .current) (x .start) (sym (x .mark) ∙ e)) at finds-read
+      pub nothing-read : d ≡ 0 → Halts i
+      unfolding finish postfixLast ending present
+      nothing-read e = finds-read ∙ rw (absent (x .current) (x .start) (sym (x .mark) ∙ e))
 
       pub ends : (a : ℕ) → d ≡ suc a → Searches O from found (Root a)
-      unfolding checked
+      unfolding finish closed ending
       ends a e =
           let o = x .current in
           let there = shown o (x .start) (λ y. omega (arith, x .mark)) in
           let first = alone O (x .stack) h (x .start) (x .chain) z .1 in
-          let is : found ≡ some o = finds-read ∙ rw (there, admitted-test T o (x .built .admitted), checked) in
+          let is : found ≡ Ending.found o = finds-read ∙ rw (finish, there) in
           rw (is, ← first) ((a, refl, sym e ∙ x .mark), x .built .rooted)

@@ -1,6 +1,6 @@
 -- Spans that have been searched and have a tree, whatever the operators of which the rows have the roles: what the search answers,
 -- and that it stays so while the spans behind later openers are searched.
-use mathlib.Core.Path.{_≡_, refl, ap, _∙_}
+use mathlib.Core.Path.{_≡_, refl, sym, ap, _∙_}
 use mathlib.Core.Logic.{inl, inr, ⊎-elim}
 use mathlib.Core.List.{List}
 use mathlib.Core.Option.{Option, none, some}
@@ -11,9 +11,9 @@ use Rattle.grammar.specs.Bytes.{Bytes}
 use Rattle.grammar.specs.Operator.{Table}
 use Rattle.grammar.specs.Span.{allItemTokens, items}
 use Rattle.grammar.specs.SpanTree.{SpanTree}
-use Rattle.grammar.specs.Climb.{climb}
+use Rattle.grammar.specs.Climb.{Ending, found, stops, search, treeFound, climb}
 use Rattle.grammar.proofs.Logic.{below, impossible}
-use Rattle.grammar.proofs.Climb.{climb-sound}
+use Rattle.grammar.proofs.ClimbExact.{climb-yields, search-climb}
 use Rattle.rows.specs.Fields.{field, store, closer, left, Within}
 use Rattle.rows.specs.Tokens.{range}
 use Rattle.rows.proofs.Fields.{store-same, other-entry}
@@ -37,12 +37,13 @@ SpanFound K R O from to m = (text : Bytes) (U : Table) → InForce text U K R fr
 module _ (K R : List ℕ) where
   -- What the search answers.
   root-found :
-      (O : List ℕ) (from at : ℕ) (text : Bytes) (U : Table) (to : ℕ) (x : Option SpanTree) → climb U (items (range text K from to)) ≡ x
+      (O : List ℕ) (from at : ℕ) (text : Bytes) (U : Table) (to : ℕ) (x : Ending) → search U from (items (range text K from to)) ≡ x
       → Searches O from x (Root at) → FoundTree text U K from to O (suc at)
-  root-found O from at text U to none e h = impossible cc
-  root-found O from at text U to (some s) e h =
+  unfolding treeFound
+  root-found O from at text U to (stops n) e h = impossible cc
+  root-found O from at text U to (found s) e h =
       let same : h .0 .0 ≡ at = let z = h .0 .1 in cc in
-      record { tree = s; found = e; marks = rw same at (h .0 .2); rooted = h .1 }
+      record { tree = s; found = sym (search-climb U from (items (range text K from to))) ∙ ap treeFound e; marks = rw same at (h .0 .2); rooted = h .1 }
 
   pub searched-found : (O O′ : List ℕ) (from to at : ℕ) → Searched K R from to O O′ (Root at) → SpanFound K R O′ from to (suc at)
   searched-found O O′ from to at h text U f = root-found O′ from at text U to _ refl (h .answer text U f)
@@ -50,18 +51,18 @@ module _ (K R : List ℕ) where
   -- A mark is one of the span's tokens.
   pub found-within : (O : List ℕ) (from to m : ℕ) (text : Bytes) (U : Table) → InForce text U K R from to → FoundTree text U K from to O m → m ≤ to
   found-within O from to m text U f x =
-      let y = climb-sound U (items (range text K from to)) (x .tree) (x .found) .yields in
+      let y = climb-yields U (items (range text K from to)) (x .tree) (x .found) in
       let wide = ap (λ is. from + length (allItemTokens is)) y ∙ parts-long (parts text K R (f .bounded) (f .agrees)) in
       omega (arith, x .marks, mark-most from (x .tree))
 
-  none-found : (O : List ℕ) (from : ℕ) (x : Option SpanTree) → Searches O from x NoTree → x ≡ none
-  none-found O from none h = refl
-  none-found O from (some s) h = let z = h .0 .1 in impossible cc
+  stopped-by : (O : List ℕ) (from k : ℕ) (x : Ending) → Searches O from x (NoTree k) → x ≡ stops k
+  stopped-by O from k (stops n) h = cc
+  stopped-by O from k (found s) h = let z = h .0 .1 in impossible cc
 
   pub searched-none :
-      (O O′ : List ℕ) (from to : ℕ) → Searched K R from to O O′ NoTree → (text : Bytes) (U : Table) → InForce text U K R from to
-      → climb U (items (range text K from to)) ≡ none
-  searched-none O O′ from to h text U f = none-found O′ from _ (h .answer text U f)
+      (O O′ : List ℕ) (from to k : ℕ) → Searched K R from to O O′ (NoTree k) → (text : Bytes) (U : Table) → InForce text U K R from to
+      → search U from (items (range text K from to)) ≡ stops k
+  searched-none O O′ from to k h text U f = stopped-by O′ from k _ (h .answer text U f)
 
   -- It stays so where the row is kept at the span's own tokens.
   module _ (O O′ : List ℕ) (from to m : ℕ) (h : SpanFound K R O from to m) where
@@ -70,7 +71,7 @@ module _ (K R : List ℕ) where
         → SpanFound K R O′ from to m
     stays-found k text U f =
         let x = h text U f in
-        let y = climb-sound U (items (range text K from to)) (x .tree) (x .found) .yields in
+        let y = climb-yields U (items (range text K from to)) (x .tree) (x .found) in
         record { tree = x .tree; found = x .found; marks = x .marks; rooted = own-rooted O O′ (x .tree) from (rw y (k text U f)) (x .rooted) }
 
     pub stays-apart : ((k j : ℕ) → k < 2 → from ≤ j → j < to → field 2 k O′ j ≡ field 2 k O j) → SpanFound K R O′ from to m

@@ -14,7 +14,7 @@ use Rattle.grammar.specs.SpanTree.{SpanTree, missing, operand, apply, yield}
 use Rattle.grammar.specs.Tree.{Tree, nothing, leaf, node, flat}
 use Rattle.grammar.specs.Nodes.{count}
 use Rattle.grammar.specs.Blocks.{hangItem, hang, hangFound, underOperator, treeIn, treeOf}
-use Rattle.grammar.proofs.Climb.{climb-sound}
+use Rattle.grammar.proofs.ClimbExact.{climb-yields}
 use Rattle.rows.specs.Fields.{closer, left}
 use Rattle.rows.specs.Tokens.{range}
 use Rattle.rows.specs.Standing.{mark, Rooted}
@@ -117,7 +117,7 @@ module _ (text : Bytes) (K R O : List ℕ) where
   unfolding treeIn hangFound
   span-hung k {U} {from} {to} m p f h =
       let s = f .tree in
-      let y = climb-sound U (items (range text K from to)) s (f .found) .yields in
+      let y = climb-yields U (items (range text K from to)) s (f .found) in
       let t = hung K O (treeIn k) U s from (rw y h) (f .rooted) in
       let wide : from + width s ≡ to = ap (λ is. from + length (allItemTokens is)) y ∙ parts-long p in
       record {

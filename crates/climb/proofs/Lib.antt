@@ -3,6 +3,7 @@ pub mod Roles
 pub mod Pass
 pub mod Coming
 pub mod Waiting
+pub mod Arrives
 pub mod Climbing
 pub mod Kept
 pub mod Spare

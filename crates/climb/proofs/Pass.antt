@@ -1,19 +1,40 @@
--- The pass over a span's items, step by step as the search takes it. What waits and what has been read are parts of what is found, so a
--- part that is not admitted leaves no tree.
+-- The pass over a span's items, step by step as the search takes it.
 use mathlib.Core.Path.{_≡_, refl, sym, ap, _∙_}
 use mathlib.Core.Bool.{Bool, true, false, _&&_}
 use mathlib.Core.List.{List, [], _∷_}
 use mathlib.Core.Option.{Option, none, some}
-use Prim.Native.Nat.{ℕ, _≤_}
+use Prim.Native.Nat.{ℕ, suc, _≤_, _+_}
 use native.Mathlib.Omega.{arith}
+use lib.ListN.{length}
 use Rattle.grammar.specs.Bytes.{Bytes}
 use Rattle.grammar.specs.Token.{symbol}
-use Rattle.grammar.specs.Operator.{Table, role}
-use Rattle.grammar.specs.Span.{Item, single}
-use Rattle.grammar.specs.SpanTree.{SpanTree, missing, operand, apply, present, roleOver, isOperand, Admitted}
-use Rattle.grammar.specs.Climb.{symbolAt, Stack, empty, waiting, leftRole, givesWay, pushed, closed, run, admittedTest, checked, climb}
-use Rattle.grammar.proofs.Logic.{impossible}
-use Rattle.grammar.proofs.Climb.{absent-missing, climb-sound}
+use Rattle.grammar.specs.Operator.{Role, Table, role, isSome, Prefix}
+use Rattle.grammar.specs.Span.{Item, single, itemTokens}
+use Rattle.grammar.specs.SpanTree.{SpanTree, missing, operand, apply, present, fixity, fixityBy, roleOfFixity, roleOver, isOperand}
+use Rattle.grammar.specs.Climb.{symbolAt, Stack, empty, waiting, leftRole, givesWay, pushed, closed}
+use Rattle.grammar.specs.Climb.{
+  Progress,
+  taking,
+  takes,
+  admitsPrefix,
+  bears,
+  fitsBelow,
+  arrives,
+  arrived,
+  operandStep,
+  operatorStep,
+  advance,
+  postfixLast,
+  finish,
+  Ending,
+  found,
+  stops,
+  ending,
+  climbFrom,
+}
+use Rattle.grammar.proofs.Logic.{impossible, clash}
+use Rattle.grammar.proofs.StackItems.{absent-missing}
+use Rattle.grammar.proofs.ClimbReached.{at}
 use Rattle.rows.specs.Codes.{Bounded, arrivalOf, givesWayTo}
 use Rattle.climb.proofs.Roles.{fit-over, gives-same, arrival-bound}
 
@@ -29,21 +50,74 @@ next-bound T b is v (last e d) = omega arith
 next-bound T b is v (comes m rest e d f) = rw d (arrival-bound T b m)
 
 module _ (T : Table) where
-  -- An operand comes behind nothing, or behind another one.
-  pub run-operand : (w : Stack) (x : Item) (is : List Item) → isOperand T x ≡ true → run T w missing (x ∷ is) ≡ run T w (operand x) is
-  unfolding run present
-  run-operand w x is e = rw (e, run)
+  pass-step :
+      (n j : ℕ) (u v : Progress) (x : Item) (is : List Item) → j ≡ n + length (itemTokens x) → advance T u x ≡ some v
+      → climbFrom T n u (x ∷ is) ≡ climbFrom T j v is
+  unfolding climbFrom
+  pass-step n j u v x is p e = rw (climbFrom, e, p)
 
-  pub run-two : (w : Stack) (o : SpanTree) (x : Item) (is : List Item) → isOperand T x ≡ true → present o ≡ true → run T w o (x ∷ is) ≡ none
-  unfolding run
-  run-two w o x is e f = rw (e, run, f)
+  pass-stop : (n : ℕ) (u : Progress) (x : Item) (is : List Item) → advance T u x ≡ none → climbFrom T n u (x ∷ is) ≡ stops n
+  unfolding climbFrom
+  pass-stop n u x is e = rw (climbFrom, e)
 
-  -- An operator comes: the innermost that waits closes, or it waits itself.
-  pub run-operator :
-      (w : Stack) (o : SpanTree) (m : Bytes) (is : List Item) → isOperand T (single (symbol m)) ≡ false
-      → run T w o (single (symbol m) ∷ is) ≡ run T (pushed T m w o) missing is
-  unfolding run symbolAt
-  run-operator w o m is e = rw (e, run)
+  -- An operand comes behind nothing, where it is taken or not, or behind another one.
+  pub pass-operand :
+      (n j : ℕ) (w : Stack) (x : Item) (is : List Item) → j ≡ n + length (itemTokens x) → isOperand T x ≡ true → takes T w ≡ true
+      → climbFrom T n (at w missing) (x ∷ is) ≡ climbFrom T j (at w (operand x)) is
+  unfolding advance operandStep present
+  pass-operand n j w x is p e t = pass-step n j (at w missing) (at w (operand x)) x is p (rw (advance, e, operandStep, t))
+
+  pub pass-untaken :
+      (n : ℕ) (w : Stack) (x : Item) (is : List Item) → isOperand T x ≡ true → takes T w ≡ false
+      → climbFrom T n (at w missing) (x ∷ is) ≡ stops n
+  unfolding advance operandStep present
+  pass-untaken n w x is e t = pass-stop n (at w missing) x is (rw (advance, e, operandStep, t))
+
+  pub pass-two :
+      (n : ℕ) (w : Stack) (o : SpanTree) (x : Item) (is : List Item) → isOperand T x ≡ true → present o ≡ true
+      → climbFrom T n (at w o) (x ∷ is) ≡ stops n
+  unfolding advance operandStep
+  pass-two n w o x is e f = pass-stop n (at w o) x is (rw (advance, e, operandStep, f))
+
+  -- An operator comes: the innermost that waits closes, or it waits itself, if it may.
+  step-operator :
+      (w : Stack) (o : SpanTree) (m : Bytes) → isOperand T (single (symbol m)) ≡ false
+      → advance T (at w o) (single (symbol m)) ≡ arrived T (pushed T m w o)
+  unfolding advance operatorStep symbolAt
+  step-operator w o m e = rw (advance, e)
+
+  arrived-by : (w : Stack) (o : SpanTree) (m : Bytes) → arrives T o m w ≡ true → arrived T (waiting o m w) ≡ some (at (waiting o m w) missing)
+  unfolding arrived
+  arrived-by w o m a = rw (arrived, a)
+
+  not-arrived : (w : Stack) (o : SpanTree) (m : Bytes) → arrives T o m w ≡ false → arrived T (waiting o m w) ≡ none
+  unfolding arrived
+  not-arrived w o m a = rw (arrived, a)
+
+  module _ (n : ℕ) (w : Stack) (o : SpanTree) (m : Bytes) (is : List Item) (e : isOperand T (single (symbol m)) ≡ false) (p : pushed T m w o ≡ waiting o m w) where
+    pub pass-waits : arrives T o m w ≡ true → climbFrom T n (at w o) (single (symbol m) ∷ is) ≡ climbFrom T (suc n) (at (waiting o m w) missing) is
+    unfolding itemTokens
+    pass-waits a =
+        pass-step n (suc n) (at w o) (at (waiting o m w) missing) (single (symbol m)) is (omega arith) (step-operator w o m e ∙ ap (arrived T) p ∙ arrived-by w o m a)
+
+    pub pass-refuses : arrives T o m w ≡ false → climbFrom T n (at w o) (single (symbol m) ∷ is) ≡ stops n
+    pass-refuses a = pass-stop n (at w o) (single (symbol m)) is (step-operator w o m e ∙ ap (arrived T) p ∙ not-arrived w o m a)
+
+  -- States that an operator finds alike.
+  pass-alike :
+      (n : ℕ) (u v : Progress) (x : Item) (is : List Item) → advance T u x ≡ advance T v x → climbFrom T n u (x ∷ is) ≡ climbFrom T n v (x ∷ is)
+  unfolding climbFrom
+  pass-alike n u v x is e = go (advance T v x) refl
+    where
+      go : (o : Option Progress) → advance T v x ≡ o → climbFrom T n u (x ∷ is) ≡ climbFrom T n v (x ∷ is)
+      go none f = pass-stop n u x is (e ∙ f) ∙ sym (pass-stop n v x is f)
+      go (some y) f = pass-step n _ u y x is refl (e ∙ f) ∙ sym (pass-step n _ v y x is refl f)
+
+  closes-postfix :
+      (l : SpanTree) (t : Bytes) (w : Stack) (q : Role) → roleOver T l t missing ≡ some q
+      → finish T (at (waiting l t w) missing) ≡ finish T (at w (apply l t missing))
+  unfolding finish present postfixLast isSome
+  closes-postfix l t w q e = rw (postfixLast, e)
 
   module _ (l : SpanTree) (t : Bytes) (w : Stack) (o : SpanTree) where
     pushed-closes : (m : Bytes) → givesWay (roleOver T l t o) (leftRole T m) ≡ true → pushed T m (waiting l t w) o ≡ pushed T m w (apply l t o)
@@ -54,80 +128,75 @@ module _ (T : Table) where
     unfolding pushed
     pushed-waits m e = rw (e, pushed)
 
-    pub run-closes :
-        Bounded T → (is : List Item) (v : ℕ) → Next T is v → givesWayTo (roleOver T l t o) v ≡ true
-        → run T (waiting l t w) o is ≡ run T w (apply l t o) is
-    unfolding run closed
-    run-closes b is v (last e d) g = rw e
-    run-closes b is v (comes m rest e d f) g =
+    final-closes : (q : Role) → roleOver T l t o ≡ some q → finish T (at (waiting l t w) o) ≡ finish T (at w (apply l t o))
+    unfolding finish present closed postfixLast isSome
+    final-closes q e = go (present o) refl
+      where
+        go : (b : Bool) → present o ≡ b → finish T (at (waiting l t w) o) ≡ finish T (at w (apply l t o))
+        go true h = rw (finish, h)
+        go false h =
+            let d = absent-missing o h in
+            let f : roleOver T l t missing ≡ some q = ap (roleOver T l t) (sym d) ∙ e in
+            rw d (closes-postfix l t w q f)
+
+    pub pass-closes :
+        Bounded T → (n : ℕ) (is : List Item) (v : ℕ) → Next T is v → givesWayTo (roleOver T l t o) v ≡ true
+        → climbFrom T n (at (waiting l t w) o) is ≡ climbFrom T n (at w (apply l t o)) is
+    unfolding climbFrom givesWayTo
+    pass-closes b n is v (last e d) g = rw e (go (roleOver T l t o) refl g)
+      where
+        go : (x : Option Role) → roleOver T l t o ≡ x → givesWayTo x v ≡ true → ending n (finish T (at (waiting l t w) o)) ≡ ending n (finish T (at w (apply l t o)))
+        go none f h = absurd (clash h refl)
+        go (some q) f h = ap (ending n) (final-closes q f)
+    pass-closes b n is v (comes m rest e d f) g =
         let h : givesWay (roleOver T l t o) (leftRole T m) ≡ true = sym (gives-same T m (roleOver T l t o) (fit-over T b l t o)) ∙ rw d at g in
         rw e
-        (run-operator (waiting l t w) o m rest f
-        ∙ (ap (λ u. run T u missing rest) (pushed-closes m h) ∙ sym (run-operator w (apply l t o) m rest f)))
+        (pass-alike n (at (waiting l t w) o) (at w (apply l t o)) (single (symbol m)) rest
+        (step-operator (waiting l t w) o m f ∙ ap (arrived T) (pushed-closes m h) ∙ sym (step-operator w (apply l t o) m f)))
 
-  -- The parts of what is found.
-  abbrev AllAdmitted : Stack → Type 0
-  AllAdmitted empty = Unit {0}
-  AllAdmitted (waiting l t w) = Admitted T l × AllAdmitted w
+  -- What stands above an operator that waits is taken by it.
+  abbrev pub AllTake : Stack → Type 0
+  AllTake empty = Unit {0}
+  AllTake (waiting l t w) = (takes T w ≡ true) × AllTake w
 
-  closed-parts : (w : Stack) (o : SpanTree) → Admitted T (closed w o) → AllAdmitted w × Admitted T o
-  unfolding closed
-  closed-parts empty o a = (tt, a)
-  closed-parts (waiting l t w) o a =
-      let p = closed-parts w (apply l t o) a in
-      ((p .1 .0, p .0), p .1 .1)
-
-  pushed-parts : (m : Bytes) (w : Stack) (o : SpanTree) → AllAdmitted (pushed T m w o) → AllAdmitted w × Admitted T o
-  unfolding pushed
-  pushed-parts m empty o a = (tt, a .0)
-  pushed-parts m (waiting l t w) o a = go (givesWay (roleOver T l t o) (leftRole T m)) refl (pushed-parts m w (apply l t o))
+  -- A prefix operator that may come is taken.
+  bears-takes : (w : Stack) (c : Role) → bears T w c ≡ true → takes T w ≡ true
+  unfolding bears takes taking admitsPrefix isSome
+  bears-takes empty c e = refl
+  bears-takes (waiting l t w) c e = go (roleOfFixity T t (fixityBy (present l) true)) e
     where
-      go :
-          (b : Bool) → givesWay (roleOver T l t o) (leftRole T m) ≡ b
-          → (AllAdmitted (pushed T m w (apply l t o)) → AllAdmitted w × Admitted T (apply l t o))
-          → (Admitted T l × AllAdmitted w) × Admitted T o
-      go true e ih = let p = ih (rw (pushed-closes l t w o m e) at a) in ((p .1 .0, p .0), p .1 .1)
-      go false e ih = let p = rw (pushed-waits l t w o m e) at a in (p .1, p .0)
+      go : (o : Option Role) → admitsPrefix o c ≡ true → isSome o ≡ true
+      go none h = h
+      go (some q) h = refl
 
-  run-parts : (is : List Item) (w : Stack) (o s : SpanTree) → run T w o is ≡ some s → Admitted T s → AllAdmitted w × Admitted T o
-  unfolding run
-  run-parts [] w o s e a = closed-parts w o (let d : closed w o ≡ s = cc in rw d a)
-  run-parts (x ∷ is) w o s e a =
-      go (isOperand T x) refl (λ f. run-parts is w (operand x) s f a) (λ m f. run-parts is (pushed T m w o) missing s f a)
+  pub arrives-takes : (o : SpanTree) (m : Bytes) (w : Stack) → (present o ≡ true → takes T w ≡ true) → arrives T o m w ≡ true → takes T w ≡ true
+  unfolding arrives fitsBelow
+  arrives-takes o m w f a = go (present o) refl
     where
-      go :
-          (b : Bool) → isOperand T x ≡ b → (run T w (operand x) is ≡ some s → AllAdmitted w × Admitted T (operand x))
-          → ((m : Bytes) → run T (pushed T m w o) missing is ≡ some s → AllAdmitted (pushed T m w o) × Admitted T missing)
-          → AllAdmitted w × Admitted T o
-      go true d h g = there (present o) refl
-        where
-          there : (b : Bool) → present o ≡ b → AllAdmitted w × Admitted T o
-          there true f = let z : none ≡ some s = sym (run-two w o x is d f) ∙ e in impossible cc
-          there false f =
-              let q = absent-missing o f in
-              let z : run T w missing (x ∷ is) ≡ some s = rw q at e in
-              rw q (h (sym (run-operand w x is d) ∙ z) .0, tt)
-      go false d h g = named (symbolAt x) refl
-        where
-          named : (y : Option Bytes) → symbolAt x ≡ y → AllAdmitted w × Admitted T o
-          named none f = let z : none ≡ some s = rw (d, run, f) at e in impossible cc
-          named (some m) f = pushed-parts m w o (g m (rw (d, run, f) at e) .0)
+      first : (x : Option Role) → fitsBelow T x w ≡ true → takes T w ≡ true
+      first none h = absurd (clash h refl)
+      first (some c) h = bears-takes w c h
 
-  checked-some : (x : Option SpanTree) (s : SpanTree) → checked T x ≡ some s → x ≡ some s
-  unfolding checked
-  checked-some none s e = e
-  checked-some (some u) s e = go (present u && admittedTest T u) refl
-    where
-      go : (b : Bool) → present u && admittedTest T u ≡ b → some u ≡ some s
-      go true f = rw (f, checked) at e
-      go false f = let z : none ≡ some s = rw (f, checked) at e in impossible cc
+      go : (b : Bool) → present o ≡ b → takes T w ≡ true
+      go true h = f h
+      go false h = first (role T m Prefix) (rw (h, arrives) at a)
 
-  -- So there is none where what has been read is not admitted.
-  pub not-admitted :
-      (is rest : List Item) (w : Stack) (o : SpanTree) → climb T is ≡ checked T (run T w o rest) → (Admitted T o → ⊥) → climb T is ≡ none
-  not-admitted is rest w o e n = go (climb T is) refl
+  left-postfix : (l : SpanTree) (t : Bytes) (w : Stack) → roleOver T l t missing ≡ none → finish T (at (waiting l t w) missing) ≡ none
+  unfolding finish present postfixLast isSome
+  left-postfix l t w e = rw (postfixLast, e)
+
+  -- At the end an operator is left over that has no role: none came behind it.
+  pub final-left :
+      (l : SpanTree) (t : Bytes) (w : Stack) (o : SpanTree) → (present o ≡ true → takes T (waiting l t w) ≡ true) → roleOver T l t o ≡ none
+      → finish T (at (waiting l t w) o) ≡ none
+  unfolding finish postfixLast isSome takes taking roleOver fixity
+  final-left l t w o f e = go (present o) refl
     where
-      go : (x : Option SpanTree) → climb T is ≡ x → climb T is ≡ none
-      go none d = d
-      go (some s) d =
-          absurd (n (run-parts rest w o s (checked-some (run T w o rest) s (sym e ∙ d)) (climb-sound T is s d .admitted) .1))
+      go : (b : Bool) → present o ≡ b → finish T (at (waiting l t w) o) ≡ none
+      go true h =
+          let z : roleOfFixity T t (fixityBy (present l) true) ≡ none = rw h at e in
+          absurd (clash (f h) (rw z))
+      go false h =
+          let d = absent-missing o h in
+          let z : roleOver T l t missing ≡ none = ap (roleOver T l t) (sym d) ∙ e in
+          rw d (left-postfix l t w z)

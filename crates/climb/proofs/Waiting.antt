@@ -1,7 +1,7 @@
 -- Where the operators that wait and what has been read stand in the rows: the operators that wait are linked by the right field, each
 -- behind its left operand. What stands before the place of a store is kept by it.
 use mathlib.Core.Path.{_≡_, refl, ap, _∙_}
-use mathlib.Core.Bool.{not}
+use mathlib.Core.Bool.{true, not}
 use mathlib.Core.List.{List, [], _∷_}
 use Prim.Native.Nat.{ℕ, suc, _+_, _≤_, _<_}
 use native.Mathlib.Omega.{arith}
@@ -11,7 +11,7 @@ use Rattle.grammar.specs.Bytes.{Bytes}
 use Rattle.grammar.specs.Token.{symbol}
 use Rattle.grammar.specs.Operator.{Table}
 use Rattle.grammar.specs.Span.{Item, single, pair, scope, itemTokens, allItemTokens}
-use Rattle.grammar.specs.SpanTree.{SpanTree, missing, operand, apply, yield, present, fixity, roleOver, root, Admitted}
+use Rattle.grammar.specs.SpanTree.{SpanTree, missing, operand, apply, yield, present, fixity, roleOver}
 use Rattle.grammar.specs.Climb.{Stack, empty, waiting}
 use Rattle.grammar.proofs.Logic.{impossible}
 use Rattle.grammar.proofs.ItemsNested.{append-tokens}
@@ -19,10 +19,9 @@ use Rattle.rows.specs.Fields.{field, arrival, left, right}
 use Rattle.rows.specs.Codes.{roleCode}
 use Rattle.rows.specs.Agreeing.{Noted}
 use Rattle.climb.specs.Searched.{width, spanMark, SpanRooted}
-use Rattle.climb.specs.Beside.{roleOfRoot}
 use Rattle.rows.specs.InUse.{roleBeside}
-use Rattle.rows.proofs.InUse.{use-none, use-beside, beside-code}
-use Rattle.climb.proofs.Beside.{root-none, root-use}
+use Rattle.grammar.specs.Climb.{taking}
+use Rattle.rows.proofs.InUse.{beside-code}
 
 -- How many tokens a tree has.
 pub width-missing : width missing ≡ 0
@@ -93,17 +92,9 @@ module _ (T : Table) (R : List ℕ) where
     pub noted : Noted T R a (symbol m)
     pub isOne : arrival R a ≡ 0 → ⊥
 
-  -- What stands at the token of a tree's root.
-  abbrev pub RootAt : ℕ → SpanTree → Type 0
-  RootAt i missing = Unit {0}
-  RootAt i (operand x) = arrival R i ≡ 0
-  RootAt i (apply l m r) = Operates (i + width l) m
-
   -- A tree that begins at token `i`, with all of its roots in the row.
   pub record Built (O : List ℕ) (i : ℕ) (s : SpanTree) : Type 0 where
     pub rooted : SpanRooted O i s
-    pub rootAt : RootAt i s
-    pub admitted : Admitted T s
 
   -- The operator `m` at token `a` waits, with the left operand `l` that begins at token `s`.
   pub record WaitsAt (O : List ℕ) (s a : ℕ) (l : SpanTree) (m : Bytes) : Type 0 where
@@ -125,7 +116,7 @@ module _ (T : Table) (R : List ℕ) where
 
   -- Rows that agree there have the same.
   pub built-kept : (O O′ : List ℕ) (i : ℕ) (s : SpanTree) → Same O O′ i (i + width s) → Built O i s → Built O′ i s
-  built-kept O O′ i s f b = record { rooted = rooted-kept O O′ i s f (b .rooted); rootAt = b .rootAt; admitted = b .admitted }
+  built-kept O O′ i s f b = record { rooted = rooted-kept O O′ i s f (b .rooted) }
 
   pub waits-kept :
       (from : ℕ) (O O′ : List ℕ) (w : Stack) (h e : ℕ) → Same O O′ from e → Waits from O w h e → Waits from O′ w h e
@@ -154,13 +145,8 @@ module _ (T : Table) (R : List ℕ) where
   over-code a m o l r x y i j p q =
       beside-code T R a m (o .noted) x y (present l) (present r) (rw p (mark-shows i l)) (rw q (mark-shows j r))
 
-  -- And that of a tree's root, read off the row.
-  pub root-code : (O : List ℕ) (i : ℕ) (s : SpanTree) → Built O i s → roleOfRoot R O (spanMark i s) ≡ roleCode (root T s)
-  unfolding spanMark root roleCode
-  root-code O i missing b = root-none R O 0 refl
-  root-code O i (operand x) b = root-use R O (suc i) i refl ∙ use-none R O i (b .rootAt)
-  root-code O i (apply l m r) b =
-      let a = i + width l in
-      root-use R O (suc a) a refl
-      ∙ (use-beside R O a (b .rootAt .isOne)
-      ∙ over-code a m (b .rootAt) l r (left O a) (right O a) i (suc a) (b .rooted .0) (b .rooted .1))
+  -- That of the role in which it takes an operand on its right.
+  pub taking-code :
+      (a : ℕ) (m : Bytes) → Noted T R a (symbol m) → (l : SpanTree) (x i : ℕ) → x ≡ spanMark i l → roleBeside R a x 1 ≡ roleCode (taking T l m)
+  unfolding taking
+  taking-code a m o l x i p = beside-code T R a m o x 1 (present l) true (rw p (mark-shows i l)) refl

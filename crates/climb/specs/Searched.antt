@@ -10,10 +10,11 @@ use Rattle.grammar.specs.Bytes.{Bytes}
 use Rattle.grammar.specs.Operator.{Table}
 use Rattle.grammar.specs.Span.{single, pair, scope, allItemTokens, items}
 use Rattle.grammar.specs.SpanTree.{SpanTree, missing, operand, apply, yield}
-use Rattle.grammar.specs.Climb.{climb}
+use Rattle.grammar.specs.Climb.{Ending, found, stops, search}
 use Rattle.grammar.specs.Tree.{Tree}
 use Rattle.grammar.specs.Nodes.{count}
-use Rattle.grammar.specs.Blocks.{spans, treelessOpener, treeOf}
+use Rattle.grammar.specs.Blocks.{spans, treelessOpener, lostToken, treeOf}
+use Rattle.grammar.specs.Spans.{Span}
 use Rattle.rows.specs.Fields.{field, kind, left, right, Holds}
 use Rattle.rows.specs.Codes.{Bounded}
 use Rattle.rows.specs.Tokens.{range}
@@ -42,10 +43,10 @@ SpanRooted O i (operand (scope ds ts)) = Unit {0}
 SpanRooted O i (apply l m r) =
     let a = i + width l in (left O a ≡ spanMark i l) × (right O a ≡ spanMark (suc a) r) × SpanRooted O i l × SpanRooted O (suc a) r
 
--- What the search answers, by the tree that there is.
-abbrev pub Searches : List ℕ → ℕ → Option SpanTree → Found → Type 0
-Searches O i none r = r ≡ NoTree
-Searches O i (some s) r = ((at : ℕ) × (r ≡ Root at) × (suc at ≡ spanMark i s)) × SpanRooted O i s
+-- What the search answers, by how the pass ends.
+abbrev pub Searches : List ℕ → ℕ → Ending → Found → Type 0
+Searches O i (stops n) r = r ≡ NoTree n
+Searches O i (found s) r = ((at : ℕ) × (r ≡ Root at) × (suc at ≡ spanMark i s)) × SpanRooted O i s
 
 -- The entries of the row outside `from` to `to` are as they were.
 pub record RootsKept (O : List ℕ) (from to : ℕ) (O′ : List ℕ) : Type 0 where
@@ -65,17 +66,21 @@ pub record InForce (text : Bytes) (T : Table) (K R : List ℕ) (from to : ℕ) :
 
 -- What the search leaves, whatever these are.
 pub record Searched (K R : List ℕ) (from to : ℕ) (O O′ : List ℕ) (r : Found) : Type 0 where
-  pub answer : (text : Bytes) (T : Table) → InForce text T K R from to → Searches O′ from (climb T (items (range text K from to))) r
+  pub answer : (text : Bytes) (T : Table) → InForce text T K R from to → Searches O′ from (search T from (items (range text K from to))) r
   pub kept : RootsKept O from to O′
 
-unfoldable pub treeless : Option ℕ → Spans
-treeless none = Answer.NoTree
-treeless (some i) = Answer.NoTreeBehind i
+-- The first span without a tree, and the token at which it is lost.
+unfoldable pub treeless : Option ℕ → ℕ → Spans
+treeless none n = Answer.NoTree n
+treeless (some i) n = Answer.NoTreeBehind i n
+
+unfoldable pub treelessOf : List Span → Spans
+treelessOf ss = treeless (treelessOpener ss) (lostToken ss)
 
 -- All spans of `n` tokens. "11: span without a tree: 0, the `(`, or the `in`"
 abbrev pub Checks : Bytes → Table → List ℕ → ℕ → List ℕ → Option Tree → Spans → Type 0
 Checks text T K n O (some t) r = ((at : ℕ) × (r ≡ Answer.Trees (count t) at) × (suc at ≡ mark 0 t)) × Rooted O 0 t
-Checks text T K n O none r = r ≡ treeless (treelessOpener (spans (suc n) T none 0 (range text K 0 n)))
+Checks text T K n O none r = r ≡ treelessOf (spans (suc n) T none 0 (range text K 0 n))
 
 pub record Checked (K R : List ℕ) (n : ℕ) (O O′ : List ℕ) (r : Spans) : Type 0 where
   pub answer : (text : Bytes) (T : Table) → InForce text T K R 0 n → Checks text T K n O′ (treeOf T (range text K 0 n)) r

@@ -10,10 +10,9 @@ ghost use mathlib.Core.Path.{_≡_};
 ghost use Prim.Native.Nat.{ℕ, suc, _≤_, _<_};
 ghost use Rattle.grammar.specs.Bytes.{Bytes};
 ghost use Rattle.grammar.specs.Operator.{Table};
-ghost use Rattle.grammar.specs.SpanTree.{admitsBoth};
-ghost use Rattle.rows.specs.Fields.{Within, kind, closer};
+ghost use Rattle.rows.specs.Fields.{Within, kind, closer, prefix, infixed, postfix};
 ghost use Rattle.rows.specs.Codes.{IsRole, roleOf};
-ghost use Rattle.climb.specs.Beside.{itemEnd, roleOfRoot};
+ghost use Rattle.climb.specs.Beside.{itemEnd, arrivesAt};
 ghost use Rattle.climb.specs.Searched.{Rows, InForce, Searched};
 
 // The token behind the item that begins at token `i`.
@@ -32,47 +31,53 @@ pub fn item_end(tokens: &[u16], i: usize) -> usize
     tokens_row::closer(tokens, c) + 1
 }
 
-// The role of an operand's root (0: no operand).
-fn role_of(roles: &[u16], roots: &[u16], operand: usize) -> u16
-    requires { ⌜ ((a : ℕ) → operand ≡ suc a → Within 4 (now roles) a × Within 2 (now roots) a) ⌝ }
-    ensures { λ r. ⌜ r ≡ roleOfRoot (now (roles .entry)) (now (roots .entry)) operand ⌝ }
+// Whether the operator at token `i` may come: behind an operand, whose root has the role `inner`, by its infix role, else its postfix one; or
+// behind none (`left` is 0) by its prefix role, which the role `taking` of the operator that waits must admit on its right.
+fn arrives(roles: &[u16], i: usize, left: usize, inner: u16, taking: u16) -> bool
+    requires { ⌜ Within 4 (now roles) i × IsRole (prefix (now roles) i) × IsRole (infixed (now roles) i) × IsRole (postfix (now roles) i) × IsRole inner × IsRole taking ⌝ }
+    ensures { λ r. ⌜ r ≡ arrivesAt (now (roles .entry)) i left inner taking ⌝ }
 {
-    if operand == 0 {
-        return 0;
-    }
-    in_use::role_in_use(roles, roots, operand - 1)
-}
-
-// Whether a role admits a left and a right operand by the roles of their roots.
-fn admits(role: u16, left: u16, right: u16) -> bool
-    requires { ⌜ IsRole role × IsRole left × IsRole right × (0 < role) ⌝ }
-    ensures { λ r. ⌜ r ≡ admitsBoth (roleOf role) (roleOf left) (roleOf right) ⌝ }
-{
-    if right != 0 {
-        if !role::admits_right(role, right) {
+    if left == 0 {
+        let prefix = roles_row::prefix(roles, i);
+        if prefix == 0 {
             return false;
         }
+        if taking == 0 {
+            return false;
+        }
+        return role::admits_right(taking, prefix);
     }
-    if left == 0 {
-        return true;
+    let infix = roles_row::infix(roles, i);
+    if infix != 0 {
+        return role::admits_left(infix, inner);
     }
-    role::admits_left(role, left)
+    let postfix = roles_row::postfix(roles, i);
+    if postfix == 0 {
+        return false;
+    }
+    role::admits_left(postfix, inner)
 }
 
+// The role that admits every operand on its right: where no operator waits, anything may come.
+pub const ANY: u16 = role::RIGHT + role::MAX_PRECEDENCE;
+
+// The token of the root; or that of the first item with which no tree begins, which is `to` where something is missing at the end.
 pub enum Found {
     Root { at: usize },
-    NoTree,
+    NoTree { at: usize },
 }
 
 // The root of the tokens from `from` to `to`, and of each part of them in `roots`. `waiting` and `operand` are one more than a token,
-// 0: none; those that wait are linked by the right field, the innermost first. `inner` is the role in use of the operand's root.
+// 0: none; those that wait are linked by the right field, the innermost first. `taking` is the role in which the innermost of them takes an
+// operand on its right, 0 where it takes none; `inner` is the role of the operand's root, 0 where that is no operator. What comes is tested as it
+// comes, so nothing is tested when an operator closes.
 pub fn root(tokens: &[u16], roles: &[u16], from: usize, to: usize, roots: &mut [u16]) -> Found
     requires { ⌜ Rows (now tokens) (now roles) (now roots) to × ((text : Bytes) × (T : Table) × InForce text T (now tokens) (now roles) from to) ⌝ }
     ensures { λ r. ⌜ Searched (now (tokens .entry)) (now (roles .entry)) from to (now (roots .entry)) (now (roots .exit)) r ⌝ }
 {
     let mut waiting: usize = 0;
     let mut operand: usize = 0;
-    let mut inner: u16 = 0;
+    let mut taking = ANY;
     let mut i = from;
     let found = 'span: loop {
         let arrival = if i < to {
@@ -82,14 +87,17 @@ pub fn root(tokens: &[u16], roles: &[u16], from: usize, to: usize, roots: &mut [
         };
         if arrival == 0 {
             if operand != 0 {
-                break 'span Found::NoTree;
+                break 'span Found::NoTree { at: i };
+            }
+            if taking == 0 {
+                break 'span Found::NoTree { at: i };
             }
             roots_row::set_left(roots, i, 0);
             roots_row::set_right(roots, i, 0);
             operand = i + 1;
-            inner = 0;
             i = item_end(tokens, i);
         } else {
+            let mut inner: u16 = 0;
             let left = loop {
                 if waiting == 0 {
                     break operand;
@@ -100,9 +108,6 @@ pub fn root(tokens: &[u16], roles: &[u16], from: usize, to: usize, roots: &mut [
                 if !role::gives_way(role, arrival) {
                     break operand;
                 }
-                if !admits(role, role_of(roles, roots, own), inner) {
-                    break 'span Found::NoTree;
-                }
                 let next = roots_row::right(roots, t);
                 roots_row::set_right(roots, t, operand);
                 operand = waiting;
@@ -111,19 +116,22 @@ pub fn root(tokens: &[u16], roles: &[u16], from: usize, to: usize, roots: &mut [
             };
             if to <= i {
                 if waiting != 0 {
-                    break 'span Found::NoTree;
+                    break 'span Found::NoTree { at: i };
                 }
                 if left == 0 {
-                    break 'span Found::NoTree;
+                    break 'span Found::NoTree { at: i };
                 }
                 break 'span Found::Root { at: left - 1 };
             }
+            if !arrives(roles, i, left, inner, taking) {
+                break 'span Found::NoTree { at: i };
+            }
+            taking = in_use::role_beside(roles, i, left, 1);
             roots_row::set_left(roots, i, left);
             roots_row::set_right(roots, i, waiting);
             i += 1;
             waiting = i;
             operand = 0;
-            inner = 0;
         }
     };
     found

@@ -1,3 +1,4 @@
+-- COPIED from grammar/proofs/ClimbComplete.antt, which keeps these to itself; only `pub` is new.
 -- The pass from left to right finds each admitted tree. Over the tree's items it leaves the tree's right spine waiting: an operator closes
 -- its left operand, which gives way to it, and no more, since what waits below keeps it. So a span has at most one tree.
 use mathlib.Core.Path.{_≡_, refl, sym, ap, subst, _∙_}
@@ -45,51 +46,48 @@ use Rattle.grammar.specs.Climb.{
   givesWay,
   pushed,
   closed,
-  run,
-  checked,
-  climb,
 }
 use Rattle.grammar.proofs.Logic.{and-right, clash}
 use Rattle.grammar.proofs.Operators.{has-role}
 use Rattle.grammar.proofs.AdmittingRole.{AdmittingRole, admitting-role, admitting-root, admits-cases}
 use Rattle.grammar.proofs.Unambiguous.{Keeps, Unambiguous}
-use Rattle.grammar.proofs.Climb.{admitted-test, absent-missing}
+use Rattle.grammar.proofs.StackItems.{absent-missing}
 
 -- A tree with the root `o` may stand on the left of an operator of the precedence `p`, as far as it says itself.
-abbrev GivesWay : Option Role → ℕ → Type 0
+abbrev pub GivesWay : Option Role → ℕ → Type 0
 GivesWay o p = (rootPrecedence o ≤ p) × (rootPrecedence o ≡ p → rightRoot o ≡ false)
 
 -- An admitted operator's left operand gives way to it, and it keeps its right one.
-left-gives : {T : Table} {l : SpanTree} {m : Bytes} {r : SpanTree} (c : AdmittingRole T l m r) → GivesWay (root T l) (c .own .precedence)
+pub left-gives : {T : Table} {l : SpanTree} {m : Bytes} {r : SpanTree} (c : AdmittingRole T l m r) → GivesWay (root T l) (c .own .precedence)
 unfolding admitsEqual
 left-gives {T} {l} c =
     let f = admits-cases onLeft (c .own) (root T l) (c .leftFits) in
     let not-right = and-right (isLeft (c .own .associativity)) (not (rightRoot (root T l))) in
     (f .0, λ x. not-true (rightRoot (root T l)) (not-right (f .1 x)))
 
-keeps-right : {T : Table} {l : SpanTree} {m : Bytes} {r : SpanTree} (c : AdmittingRole T l m r) → Keeps (c .own) (rootPrecedence (root T r))
+pub keeps-right : {T : Table} {l : SpanTree} {m : Bytes} {r : SpanTree} (c : AdmittingRole T l m r) → Keeps (c .own) (rootPrecedence (root T r))
 unfolding admitsEqual
 keeps-right {T} {l} {m} {r} c = admits-cases onRight (c .own) (root T r) (c .rightFits)
 
 -- The right spine of a tree: the operators that still wait when all its items have come, and what stands at its end.
-spine : SpanTree → Stack → Stack
+unfoldable pub spine : SpanTree → Stack → Stack
 spine missing w = w
 spine (operand i) w = w
 spine (apply l m r) w = spine r (waiting l m w)
 
-spineEnd : SpanTree → SpanTree
+unfoldable pub spineEnd : SpanTree → SpanTree
 spineEnd missing = missing
 spineEnd (operand i) = operand i
 spineEnd (apply l m r) = spineEnd r
 
-closed-spine : (s : SpanTree) (w : Stack) → closed (spine s w) (spineEnd s) ≡ closed w s
+pub closed-spine : (s : SpanTree) (w : Stack) → closed (spine s w) (spineEnd s) ≡ closed w s
 unfolding closed spine spineEnd
 closed-spine missing w = refl
 closed-spine (operand i) w = refl
 closed-spine (apply l m r) w = closed-spine r (waiting l m w)
 
 -- The test whether an operator gives way.
-gives-way : (q d : Role) → GivesWay (some q) (d .precedence) → givesWay (some q) (some d) ≡ true
+pub gives-way : (q d : Role) → GivesWay (some q) (d .precedence) → givesWay (some q) (some d) ≡ true
 unfolding givesWay rightRoot rootPrecedence
 gives-way q d h = go (ltb (q .precedence) (d .precedence)) refl
   where
@@ -99,7 +97,7 @@ gives-way q d h = go (ltb (q .precedence) (d .precedence)) refl
         let f = ltb-false (q .precedence) (d .precedence) e in
         rw (e, eq-eqb (q .precedence) (d .precedence) (omega arith), h .1 (omega arith))
 
-keeps-way : (q d : Role) → Keeps q (d .precedence) → givesWay (some q) (some d) ≡ false
+pub keeps-way : (q d : Role) → Keeps q (d .precedence) → givesWay (some q) (some d) ≡ false
 unfolding givesWay
 keeps-way q d k = go (eqb (q .precedence) (d .precedence)) refl
   where
@@ -120,7 +118,7 @@ module _ (T : Table) (m : Bytes) (d : Role) (comes : leftRole T m ≡ some d) wh
   unfolding spine spineEnd root pushed
   collapse missing a g w = refl
   collapse (operand i) a g w = refl
-  collapse (apply l t r) a g w = collapse r (a .1) (gives-right (c .own) (root T r) (d .precedence) (keeps-right c) here) (waiting l t w) ∙ step
+  collapse (apply l t r) a g w = collapse r (a .1) (gives-right (c .own) (root T r) (d .precedence) (keeps-right c) here) (waiting l t w) ∙ advance
     where
       c : AdmittingRole T l t r
       c = admitting-role T l t r a
@@ -128,8 +126,8 @@ module _ (T : Table) (m : Bytes) (d : Role) (comes : leftRole T m ≡ some d) wh
       here : GivesWay (some (c .own)) (d .precedence)
       here = rw (admitting-root c) at g
 
-      step : pushed T m (waiting l t w) r ≡ pushed T m w (apply l t r)
-      step = rw (pushed, comes, admitting-root c, gives-way (c .own) d here)
+      advance : pushed T m (waiting l t w) r ≡ pushed T m w (apply l t r)
+      advance = rw (pushed, comes, admitting-root c, gives-way (c .own) d here)
 
 -- A waiting operator that does not give way stays.
 push-stays :
@@ -140,23 +138,23 @@ unfolding pushed fixity roleOver
 push-stays T m k t w o e = rw (pushed, e)
 
 -- The innermost waiting operator keeps an operand of the precedence `p`.
-abbrev Bears : Table → Stack → ℕ → Type 0
+abbrev pub Bears : Table → Stack → ℕ → Type 0
 Bears T empty p = Unit {0}
 Bears T (waiting l t w) p = (q : Role) × (roleOfFixity T t (fixityBy (present l) true) ≡ some q) × Keeps q p
 
-bears-lower : (T : Table) (w : Stack) (p r : ℕ) → r ≤ p → Bears T w p → Bears T w r
+pub bears-lower : (T : Table) (w : Stack) (p r : ℕ) → r ≤ p → Bears T w p → Bears T w r
 bears-lower T empty p r h b = tt
 bears-lower T (waiting l t w) p r h b = (b .0, b .1, (omega arith, λ e. b .2 .1 (omega arith)))
 
 -- The role of an operator over two parts, by their presence.
-role-by : {T : Table} {l : SpanTree} {m : Bytes} {r : SpanTree} (c : AdmittingRole T l m r)
+pub role-by : {T : Table} {l : SpanTree} {m : Bytes} {r : SpanTree} (c : AdmittingRole T l m r)
     → roleOfFixity T m (fixityBy (present l) (present r)) ≡ some (c .own)
 unfolding roleOver fixity
 role-by c = admitting-root c
 
 module _ (T : Table) (clear : Unambiguous T) where
   -- An operator with something on its left comes by the precedence of the role that it turns out to have.
-  left-role :
+  pub left-role :
       (m : Bytes) (b : Bool) (q : Role) → roleOfFixity T m (fixityBy true b) ≡ some q
       → (d : Role) × (leftRole T m ≡ some d) × (q .precedence ≡ d .precedence)
   unfolding fixityBy roleOfFixity leftRole firstRole
@@ -194,7 +192,7 @@ module _ (T : Table) (clear : Unambiguous T) where
       go true f = rw f (postfix (role T t Postfix) refl (leftRole T m) refl (rw f at (b .1)))
 
   -- So an operator closes its left operand and no more.
-  push :
+  pub push :
       (l : SpanTree) (m : Bytes) (r : SpanTree) → Admitted T l → (c : AdmittingRole T l m r) (w : Stack) → Bears T w (c .own .precedence)
       → pushed T m (spine l w) (spineEnd l) ≡ waiting l m w
   unfolding spine spineEnd fixityBy roleOfFixity
@@ -210,40 +208,3 @@ module _ (T : Table) (clear : Unambiguous T) where
           let d = left-role m (present r) (c .own) (rw e at (role-by c)) in
           let closes = collapse T m (d .0) (d .1) l a (subst (GivesWay (root T l)) (d .2) (left-gives c)) w in
           closes ∙ push-behind m (d .0) (d .1) l e w (subst (Bears T w) (d .2) b)
-
-  operator-step :
-      (w : Stack) (o : SpanTree) (m : Bytes) (is : List Item) → inForce T m ≡ true
-      → run T w o (single (symbol m) ∷ is) ≡ run T (pushed T m w o) missing is
-  unfolding run isOperand isOperandAtom symbolAt
-  operator-step w o m is h = rw (run, h)
-
-  -- The pass over the items of an admitted tree leaves its right spine.
-  run-tree :
-      (s : SpanTree) → Admitted T s → (w : Stack) → (present s ≡ true → Bears T w (rootPrecedence (root T s))) → (is : List Item)
-      → run T w missing (yield s ++ is) ≡ run T (spine s w) (spineEnd s) is
-  unfolding run yield present spine spineEnd root rootPrecedence inForce
-  run-tree missing a w b is = refl
-  run-tree (operand i) a w b is = rw (run, a)
-  run-tree (apply l m r) a w b is =
-      rw (append-assoc (yield l) (single (symbol m) ∷ yield r) is)
-      (run-tree l (a .0) w (λ e. bears-lower T w (c .own .precedence) (rootPrecedence (root T l)) (left-gives c .0) here) (single (symbol m) ∷ (yield r ++ is))
-      ∙ operator-step (spine l w) (spineEnd l) m (yield r ++ is) (has-role (role T m) (c .form) (c .own) (c .known))
-      ∙ ap (λ v. run T v missing (yield r ++ is)) (push l m r (a .0) c w here)
-      ∙ run-tree r (a .1) (waiting l m w) (λ e. (c .own, rw e at (role-by c), keeps-right c)) is)
-    where
-      c : AdmittingRole T l m r
-      c = admitting-role T l m r a
-
-      here : Bears T w (c .own .precedence)
-      here = rw (admitting-root c) at (b refl)
-
-  pub climb-complete : (is : List Item) (s : SpanTree) → IsSpanTree T is s → climb T is ≡ some s
-  unfolding climb checked run closed
-  climb-complete is s t = rw (found, checked, t .there, admitted-test T s (t .admitted))
-    where
-      found : run T empty missing is ≡ some s
-      found = rw (← (t .yields), ← (append-nil (yield s))) (run-tree s (t .admitted) empty (λ e. tt) [] ∙ ap some (closed-spine s empty))
-
-  -- A span has at most one tree.
-  pub climb-unique : (is : List Item) (s u : SpanTree) → IsSpanTree T is s → IsSpanTree T is u → s ≡ u
-  climb-unique is s u p q = cc (climb-complete is s p, climb-complete is u q)

@@ -17,12 +17,18 @@ pub mod StripDeclarations
 pub mod Operators
 pub mod ConditionsTest
 pub mod OverloadingTest
-pub mod Climb
+pub mod StackItems
 pub mod AdmittingRole
 pub mod WidestRoot
 pub mod TreeOperators
 pub mod Unambiguous
 pub mod ClimbComplete
+pub mod TreeCut
+pub mod Continuations
+pub mod Arriving
+pub mod ClimbInvariant
+pub mod ClimbReached
+pub mod ClimbExact
 pub mod FirstUnfit
 pub mod DeclarationFaults
 pub mod Items
@@ -61,6 +67,7 @@ pub mod CanonicalAgreement
 pub mod RoundTrip
 pub mod BlankTexts
 pub mod Rules
+pub mod LostPlaces
 pub mod BlankRules
 pub mod FewestTokens
 pub mod Answers

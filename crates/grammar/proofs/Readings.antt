@@ -22,18 +22,18 @@ use Rattle.grammar.specs.Nesting.{nesting}
 use Rattle.grammar.specs.SpanTree.{SpanTree}
 use Rattle.grammar.specs.Tree.{Tree, IsTree}
 use Rattle.grammar.specs.Blank.{blankRule}
-use Rattle.grammar.specs.Climb.{climb}
-use Rattle.grammar.specs.Blocks.{firstWithout, checkBlocks, treeOf, treelessOpener, treeIn}
+use Rattle.grammar.specs.Climb.{stops, search, climb}
+use Rattle.grammar.specs.Blocks.{firstWithout, checkBlocks, treeOf, treelessOpener, lostToken, treeIn}
 use Rattle.grammar.specs.Answer.{Reading, PastChecks, tokensOf, offsetOf, spanOffset, readingTree, readSpans, readTokens, readText, spansOf}
 use Rattle.grammar.specs.Claim.{HasNoTree}
 use Rattle.grammar.proofs.Scanned.{length-tokens}
 use Rattle.grammar.proofs.CheckedTrees.{IsCheckedTree, checked-tree}
 use Rattle.grammar.proofs.BlocksLawful.{tree-checked}
 use Rattle.grammar.proofs.ReadingTrees.{IsReading, of-tree, of-none, reading-complete}
-use Rattle.grammar.proofs.Lists.{all-right}
-use Rattle.grammar.proofs.Climb.{climb-sound}
+use Rattle.grammar.proofs.Lists.{all-right, all-member}
+use Rattle.grammar.proofs.ClimbExact.{climb-sound, climb-complete}
+use Rattle.grammar.proofs.Operators.{positive-start}
 use Rattle.grammar.proofs.Unambiguous.{permitted-unambiguous}
-use Rattle.grammar.proofs.ClimbComplete.{climb-complete}
 use Rattle.grammar.proofs.SpanOrder.{first-by-start}
 use Rattle.grammar.proofs.ItemLists.{andThen-passed, andThen-refused}
 use Rattle.grammar.proofs.RefusalNumbers.{scan-number, nesting-number, blocks-number}
@@ -44,6 +44,7 @@ use Rattle.grammar.proofs.Spans.{
   firstWithout-none,
   firstWithout-all,
   firstWithout-some,
+  lost-behind,
   spans-have,
   spans-hang,
   LawfulSpan,
@@ -133,7 +134,7 @@ reading-sound text ps h (x ∷ ts) q t e =
     let found : treeOf startTable (tokensOf ps) ≡ some t = rw q e in
     rw q at
     (of-tree
-    (treeIn-sound (suc (length (tokensOf ps))) (suc (length ps)) startTable 0 (tokensOf ps) t (nested-tokens text ps h)
+    (treeIn-sound (suc (length (tokensOf ps))) (suc (length ps)) startTable (permitted-start, positive-start) 0 (tokensOf ps) t (nested-tokens text ps h)
     (rw (length-tokens ps) (omega arith)) (h .declared) found))
 
 pub reading-of-tokens : (text : Bytes) (r : Reading) → readText text ≡ passed r → PastChecks text (r .tokens) × IsReading (tokensOf (r .tokens)) (r .tree)
@@ -158,12 +159,12 @@ read-as text ps h t i = past-reads text ps h ∙ ap (readSpans text ps) (reading
 span-among : (ss xs ys : List Span) (s : Span) → ss ≡ xs ++ s ∷ ys → List·Memᴰ s ss
 span-among ss xs ys s e = rw e (Memᴰ·append-right xs (List·Memᴰ·head refl))
 
-not-found : (s : Span) → HasNoTree s → climb (s .table) (s .contents) ≡ none
-not-found s h = go (climb (s .table) (s .contents)) refl
+not-found : (s : Span) → LawfulSpan s → HasNoTree s → climb (s .table) (s .contents) ≡ none
+not-found s p h = go (climb (s .table) (s .contents)) refl
   where
     go : (o : Option SpanTree) → climb (s .table) (s .contents) ≡ o → climb (s .table) (s .contents) ≡ none
     go none e = e
-    go (some t) e = absurd (h t (climb-sound (s .table) (s .contents) t e))
+    go (some t) e = absurd (h t (climb-sound (s .table) (p .0) (p .1) (s .contents) t e))
 
 -- The first span without a tree, by the list of spans, and its place.
 pub record FirstListed (text : Bytes) (ps : List Placed) (p : ℕ) : Type 0 where
@@ -172,26 +173,36 @@ pub record FirstListed (text : Bytes) (ps : List Placed) (p : ℕ) : Type 0 wher
   pub treeless : HasNoTree span
   pub first : (s : Span) → List·Memᴰ s (spansOf ps) → HasNoTree s → startOf (span .opener) ≤ startOf (s .opener)
   pub offset : p ≡ spanOffset text ps (span .opener)
+  -- The search of it stops at the token at which the text is lost.
+  pub stopped : search (span .table) (startOf (span .opener)) (span .contents) ≡ stops (lostToken (spansOf ps))
 
-refusal-at :
+-- Every span of a text past checks 1 to 10 has operators that keep the overloading rule, of a precedence of at least 1.
+pub span-lawful : (text : Bytes) (ps : List Placed) → PastChecks text ps → (s : Span) → List·Memᴰ s (spansOf ps) → LawfulSpan s
+span-lawful text ps h s m =
+    all-member LawfulSpan m
+    (spans-lawful (suc (length ps)) (suc (length ps)) startTable none 0 0 (tokensOf ps) (permitted-start, positive-start) (nested-tokens text ps h)
+    (rw (length-tokens ps) (omega arith)) (h .declared))
+
+pub refusal-at :
     (text : Bytes) (ps : List Placed) → PastChecks text ps → (o : Option ℕ) → firstWithout (spansOf ps) ≡ some o
     → FirstListed text ps (spanOffset text ps o)
 refusal-at text ps h o e =
     let f = firstWithout-some (spansOf ps) o e in
     let l =
-    spans-lawful (suc (length ps)) (suc (length ps)) startTable none 0 0 (tokensOf ps) permitted-start (nested-tokens text ps h)
+    spans-lawful (suc (length ps)) (suc (length ps)) startTable none 0 0 (tokensOf ps) (permitted-start, positive-start) (nested-tokens text ps h)
     (rw (length-tokens ps) (omega arith)) (h .declared) in
-    let k : Permitted (f .span .table) = (all-right LawfulSpan (f .before) (f .span ∷ f .after) (rw (f .cut) at l)) .0 in
+    let k : LawfulSpan (f .span) = (all-right LawfulSpan (f .before) (f .span ∷ f .after) (rw (f .cut) at l)) .0 in
     let q : f .span .opener ≡ o = f .opened in
     record {
       span = f .span;
       among = span-among (spansOf ps) (f .before) (f .after) (f .span) (f .cut);
       treeless =
           λ s i.
-          let w = climb-complete (f .span .table) (permitted-unambiguous (f .span .table) k) (f .span .contents) s i in
+          let w = climb-complete (f .span .table) (k .0) (f .span .contents) s i in
           clashing w (f .without);
-      first = λ s m n. rw q (first-by-start (suc (length ps)) startTable (tokensOf ps) (h .nested) o e s m (not-found s n));
+      first = λ s m n. rw q (first-by-start (suc (length ps)) startTable (tokensOf ps) (h .nested) o e s m (not-found s (span-lawful text ps h s m) n));
       offset = ap (spanOffset text ps) (sym q);
+      stopped = lost-behind (f .before) (f .span) (f .after) (f .earlier) (f .without) ∙ ap (λ ss. stops (lostToken ss)) (sym (f .cut));
     }
 
 -- Where each span has a tree the text has one, ..
@@ -232,7 +243,7 @@ treeless-refused text x xs h never = go (firstWithout (spansOf ps)) refl
         absurd
         (never (t .0)
         (checked-tree
-        (treeIn-sound (suc (length (tokensOf ps))) (suc (length ps)) startTable 0 (tokensOf ps) (t .0) (nested-tokens text ps h)
+        (treeIn-sound (suc (length (tokensOf ps))) (suc (length ps)) startTable (permitted-start, positive-start) 0 (tokensOf ps) (t .0) (nested-tokens text ps h)
         (rw (length-tokens ps) (omega arith)) (h .declared) (t .1))))
     go (some o) e = (
       spanOffset text ps o,

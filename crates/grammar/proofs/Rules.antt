@@ -30,10 +30,11 @@ use Rattle.grammar.proofs.SpanOrder.{opener-within}
 use Rattle.grammar.proofs.TokenFaults.{token-at}
 use Rattle.grammar.proofs.SpansRelation.{span-listed}
 use Rattle.grammar.proofs.OverloadingTest.{permitted-start}
-use Rattle.grammar.proofs.Climb.{climb-sound}
+use Rattle.grammar.proofs.ClimbExact.{climb-sound}
+use Rattle.grammar.proofs.Lists.{all-member}
 use Rattle.grammar.proofs.TextTree.{treeOf-complete}
 use Rattle.grammar.proofs.Spans.{HasTree, spans-have}
-use Rattle.grammar.proofs.Readings.{text-checked, reading-of-tokens, read-as, FirstListed, treeless-refused, refused-treeless}
+use Rattle.grammar.proofs.Readings.{span-lawful, text-checked, reading-of-tokens, read-as, FirstListed, treeless-refused, refused-treeless}
 use Rattle.grammar.proofs.RoundTrip.{faithful, reads-back, same-text}
 use Rattle.grammar.proofs.Faults.{checked-past, past-checked}
 use Rattle.grammar.proofs.BlankTexts.{blank-checked, checked-blank}
@@ -83,14 +84,14 @@ module _ (text : Bytes) (ps : List Placed) (h : PastChecks text ps) where
   abbrev ts : List Token
   ts = tokensOf ps
 
-  listed : (s : Span) → SpanOf ts s ↔ List·Memᴰ s (spansOf ps)
+  pub listed : (s : Span) → SpanOf ts s ↔ List·Memᴰ s (spansOf ps)
   listed s =
       let declared : checkBlocks (suc (length ts)) startTable 0 ts ≡ passed tt =
       ap (λ k. checkBlocks (suc k) startTable 0 ts) (length-tokens ps) ∙ h .declared in
       subst (λ k. SpanOf ts s ↔ List·Memᴰ s (spans (suc k) startTable none 0 ts)) (length-tokens ps) (span-listed ts (h .nested) declared s)
 
   -- The place of a span is its offset.
-  place-offset : (s : Span) → List·Memᴰ s (spansOf ps) → (p : ℕ) → SpanPlace text ts (s .opener) p ↔ (p ≡ spanOffset text ps (s .opener))
+  pub place-offset : (s : Span) → List·Memᴰ s (spansOf ps) → (p : ℕ) → SpanPlace text ts (s .opener) p ↔ (p ≡ spanOffset text ps (s .opener))
   unfolding spanOffset
   place-offset s m p = go (s .opener) (opener-within (suc (length ps)) startTable ts (h .nested) s m)
     where
@@ -98,7 +99,7 @@ module _ (text : Bytes) (ps : List Placed) (h : PastChecks text ps) where
       go none l = ((λ e. e), λ e. e)
       go (some i) l = token-at text ps (h .scanned) i p (omega (arith, length-tokens ps))
 
-  first-in-list : (p : ℕ) → FirstListed text ps p → FirstWithout text ts p
+  abbrev pub first-in-list : (p : ℕ) → FirstListed text ps p → FirstWithout text ts p
   first-in-list p f =
       record {
         span = f .span;
@@ -125,11 +126,6 @@ first-place text ps h p q f g =
     let d = place-offset text ps h (g .span) (listed text ps h (g .span) .0 (g .among)) q .0 (g .place) in
     e ∙ ap (spanOffset text ps) o ∙ sym d
 
--- A member of a list of which something holds.
-all-member : {A : Type 0} (P : A → Type 0) {x : A} {xs : List A} → List·Memᴰ x xs → All P xs → P x
-all-member P (List·Memᴰ·head e) h = rw e (h .0)
-all-member P (List·Memᴰ·tail m) h = all-member P m (h .1)
-
 -- A text with a span without a tree has none.
 span-treeless :
     (text : Bytes) (ps : List Placed) → PastChecks text ps → (s : Span) → SpanOf (tokensOf ps) s → HasNoTree s
@@ -139,7 +135,8 @@ span-treeless text ps h s m never t i =
     let e = treeOf-complete startTable permitted-start (tokensOf ps) t (text-checked text ps h t i) in
     let have = spans-have (suc (length ps)) (suc (length (tokensOf ps))) startTable none 0 (tokensOf ps) t e in
     let (u, q) = all-member HasTree (listed text ps h s .0 m) have in
-    never u (climb-sound (s .table) (s .contents) u q)
+    let p = span-lawful text ps h s (listed text ps h s .0 m) in
+    never u (climb-sound (s .table) (p .0) (p .1) (s .contents) u q)
 
 -- A text with a span behind an opener has a token.
 pub inside-some :
@@ -165,7 +162,7 @@ span-without text ts past s among never t i =
     span-treeless text ps h s (rw q among) never t (rw q i)
 
 -- A text past checks 1 to 10 with at least one token.
-past-some :
+pub past-some :
     (text : Bytes) (x : Token) (ts : List Token) → Past text (x ∷ ts)
     → (y : Placed) × (ys : List Placed) × PastChecks text (y ∷ ys) × (tokensOf (y ∷ ys) ≡ x ∷ ts)
 unfolding tokensOf

@@ -16,6 +16,8 @@ use Rattle.grammar.specs.Span.{Item, single, pair, scope, itemTokens, it
 use Rattle.grammar.specs.SpanTree.{SpanTree}
 use Rattle.grammar.specs.Climb.{climb}
 use Rattle.grammar.specs.Blocks.{bodyTable, itemSpans, allItemSpans, spans, firstWithout, treelessOpener}
+use Rattle.grammar.specs.Bytes.{All}
+use Rattle.grammar.proofs.Lists.{all-append, all-map, all-member}
 use Rattle.grammar.proofs.Logic.{impossible}
 use Rattle.grammar.proofs.ItemsNested.{ItemNested, AllNested, items-tokens, items-nested}
 
@@ -92,6 +94,69 @@ ascending-below low high (List·Memᴰ·tail {x = x} m) a = ascending-below (suc
 pub opener-within : (k : ℕ) (T : Table) (ts : List Token) → nesting [] 0 ts ≡ passed tt → (s : Span) → List·Memᴰ s (spans k T none 0 ts)
     → startOf (s .opener) ≤ length ts
 opener-within k T ts n s m = omega (arith, ascending-below 0 (suc (0 + length ts)) m (spans-ordered k T none ts 0 n))
+
+-- Two spans that start at one token are the same.
+ascending-same :
+    (low high : ℕ) {s r : Span} {ss : List Span} → List·Memᴰ s ss → List·Memᴰ r ss → Ascending low high ss
+    → startOf (s .opener) ≡ startOf (r .opener) → s ≡ r
+ascending-same low high (List·Memᴰ·head e) (List·Memᴰ·head f) a q = cc
+ascending-same low high (List·Memᴰ·head {x = x} e) (List·Memᴰ·tail m) a q =
+    absurd (omega (arith, ascending-member (suc (startOf (x .opener))) high m (a .1), ap (λ s. startOf (s .opener)) e))
+ascending-same low high (List·Memᴰ·tail {x = x} m) (List·Memᴰ·head f) a q =
+    absurd (omega (arith, ascending-member (suc (startOf (x .opener))) high m (a .1), ap (λ s. startOf (s .opener)) f))
+ascending-same low high (List·Memᴰ·tail {x = x} m) (List·Memᴰ·tail n) a q = ascending-same (suc (startOf (x .opener))) high m n (a .1) q
+
+pub same-span :
+    (k : ℕ) (T : Table) (ts : List Token) → nesting [] 0 ts ≡ passed tt → (s r : Span) → List·Memᴰ s (spans k T none 0 ts)
+    → List·Memᴰ r (spans k T none 0 ts) → startOf (s .opener) ≡ startOf (r .opener) → s ≡ r
+same-span k T ts n s r m l = ascending-same 0 (suc (0 + length ts)) m l (spans-ordered k T none ts 0 n)
+
+-- The items of a span end within the text.
+abbrev EndsBy : ℕ → Span → Type 0
+EndsBy high s = startOf (s .opener) + length (allItemTokens (s .contents)) ≤ high
+
+ends-later : {low high : ℕ} (ss : List Span) → low ≤ high → All (EndsBy low) ss → All (EndsBy high) ss
+ends-later {low} {high} ss l = all-map (EndsBy low) (EndsBy high) (λ s a. omega arith) ss
+
+abbrev Ends : (Table → Option ℕ → ℕ → List Token → List Span) → Type 0
+Ends inner =
+    (T : Table) (o : Option ℕ) (ts : List Token) (i : ℕ) → nesting [] i ts ≡ passed tt
+    → All (EndsBy (startOf o + length ts)) (inner T o (startOf o) ts)
+
+module _ (inner : Table → Option ℕ → ℕ → List Token → List Span) (ends : Ends inner) where
+  item-ends : (T : Table) (i : ℕ) (x : Item) → ItemNested x → All (EndsBy (i + length (itemTokens x))) (itemSpans inner T i x)
+  unfolding itemSpans itemTokens
+  item-ends T i (single t) n = tt
+  item-ends T i (pair ts) n =
+      let e = length-append ts (structure closing ∷ []) in
+      ends-later (inner T (some i) (suc i) ts) (omega arith) (ends T (some i) ts 0 (n 0))
+  item-ends T i (scope ds ts) n =
+      let e = length-append (ds ++ structure keywordIn ∷ ts) (structure keywordEnd ∷ []) in
+      let f = length-append ds (structure keywordIn ∷ ts) in
+      let j = suc (i + length ds) in
+      ends-later (inner (bodyTable T ds) (some j) (suc j) ts) (omega arith) (ends (bodyTable T ds) (some j) ts 0 (n .1 0))
+
+  items-end : (T : Table) (i : ℕ) (xs : List Item) → AllNested xs → All (EndsBy (i + length (allItemTokens xs))) (allItemSpans inner T i xs)
+  unfolding allItemSpans allItemTokens
+  items-end T i [] n = tt
+  items-end T i (x ∷ xs) n =
+      let e = length-append (itemTokens x) (allItemTokens xs) in
+      let j = i + length (itemTokens x) in
+      all-append (EndsBy (i + length (itemTokens x ++ allItemTokens xs))) (itemSpans inner T i x) (allItemSpans inner T j xs)
+      (ends-later (itemSpans inner T i x) (omega arith) (item-ends T i x (n .0)))
+      (ends-later (allItemSpans inner T j xs) (omega arith) (items-end T j xs (n .1)))
+
+spans-end : (k : ℕ) → Ends (spans k)
+unfolding spans
+spans-end zero T o ts i n = tt
+spans-end (suc k) T o ts i n =
+    let e = items-tokens ts i n in
+    (omega (arith, ap length e), rw e at (items-end (spans k) (spans-end k) T (startOf o) (items ts) (items-nested ts i n)))
+
+pub span-within :
+    (k : ℕ) (T : Table) (ts : List Token) → nesting [] 0 ts ≡ passed tt → (s : Span) → List·Memᴰ s (spans k T none 0 ts)
+    → startOf (s .opener) + length (allItemTokens (s .contents)) ≤ length ts
+span-within k T ts n s m = omega (arith, all-member (EndsBy (0 + length ts)) m (spans-end k T none ts 0 n))
 
 -- The first span without a tree, by the tree of the first span.
 first-without-here : (x : Span) (ss : List Span) (o : Option ℕ) → climb (x .table) (x .contents) ≡ none → firstWithout (x ∷ ss) ≡ some o → o ≡ x .opener

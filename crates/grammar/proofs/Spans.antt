@@ -5,7 +5,7 @@ use mathlib.Core.Option.{Option, none, some}
 use Prim.Native.Nat.{ℕ, zero, suc, _+_, _<_}
 use native.Mathlib.Omega.{arith}
 use lib.ListN.{length}
-use Rattle.grammar.specs.Spans.{Span}
+use Rattle.grammar.specs.Spans.{Span, startOf}
 use Rattle.grammar.specs.Token.{Token, symbol}
 use Rattle.grammar.specs.Outcome.{passed}
 use Rattle.grammar.specs.Operator.{Table, Permitted}
@@ -13,7 +13,7 @@ use Rattle.grammar.specs.Declaration.{declareAll, declarations}
 use Rattle.grammar.specs.Span.{Item, single, pair, scope, items, itemTokens}
 use Rattle.grammar.specs.SpanTree.{SpanTree, missing, operand, apply, yield}
 use Rattle.grammar.specs.Tree.{Tree, nothing, leaf, bracket, block, node}
-use Rattle.grammar.specs.Climb.{climb}
+use Rattle.grammar.specs.Climb.{stops, search, climb}
 use Rattle.grammar.specs.Blocks.{
   bodyTable,
   checkBlocks,
@@ -21,6 +21,7 @@ use Rattle.grammar.specs.Blocks.{
   allItemSpans,
   spans,
   firstWithout,
+  lostToken,
   underBracket,
   underBlock,
   underOperator,
@@ -31,7 +32,9 @@ use Rattle.grammar.specs.Blocks.{
 }
 use Rattle.grammar.specs.Bytes.{All}
 use Rattle.grammar.proofs.Lists.{all-left, all-right, all-append}
-use Rattle.grammar.proofs.Climb.{climb-sound}
+use Rattle.grammar.proofs.ClimbExact.{climb-yields, stops-somewhere, found-anywhere}
+use Rattle.grammar.proofs.Positive.{Positive}
+use Rattle.grammar.proofs.Operators.{positive-declared}
 use Rattle.grammar.proofs.Declarations.{enter-sound}
 use Rattle.grammar.proofs.OverloadingTest.{permitted-sound}
 use Rattle.grammar.proofs.ItemLists.{CheckedBy}
@@ -120,7 +123,7 @@ module _ (inner : Table → List Token → Option Tree) (below : Table → Optio
   unfolding hangFound
   spans-of-found T o i ts t none q e = impossible cc
   spans-of-found T o i ts t (some s) q e =
-      let y = climb-sound T (items ts) s q .yields in
+      let y = climb-yields T (items ts) s q in
       ((s, q), allItemSpans-have T i (items ts) (rw y at (hang-inside inner T s t e)))
 
 pub spans-have :
@@ -160,7 +163,7 @@ spans-hang zero T o i ts n b h = absurd (omega arith)
 spans-hang (suc k) T o i ts n b h =
     let s = h .0 .0 in
     let q : climb T (items ts) ≡ some s = h .0 .1 in
-    let y = climb-sound T (items ts) s q .yields in
+    let y = climb-yields T (items ts) s q in
     let g = allItemSpans-hang (treeIn k) (spans k) k (spans-hang k) T i (items ts) (inside-items k ts n (omega arith)) (h .1) in
     let f = hang-some (treeIn k) T s (rw y g) in
     (f .0, ap (hangFound (treeIn k) T) q ∙ f .1)
@@ -199,14 +202,26 @@ unfolding firstWithout
 firstWithout-some [] o e = impossible cc
 firstWithout-some (s ∷ ss) o e = without-some s ss o (firstWithout-some ss o) (climb (s .table) (s .contents)) refl e
 
+-- The search of it stops at the token at which the tokens are lost.
+pub lost-behind :
+    (before : List Span) (s : Span) (after : List Span) → All HasTree before → climb (s .table) (s .contents) ≡ none
+    → search (s .table) (startOf (s .opener)) (s .contents) ≡ stops (lostToken (before ++ s ∷ after))
+unfolding lostToken
+lost-behind [] s after h e =
+    let (k, f) = stops-somewhere (s .table) (startOf (s .opener)) (s .contents) e in
+    f ∙ ap stops (rw (f, lostToken))
+lost-behind (b ∷ before) s after h e =
+    lost-behind before s after (h .1) e
+    ∙ ap stops (rw (found-anywhere (b .table) (startOf (b .opener)) (b .contents) (h .0 .0) (h .0 .1), lostToken))
+
 -- The operators of every span of a text past checks 6 to 10 and 17 keep the overloading rule.
 abbrev pub LawfulSpan : Span → Type 0
-LawfulSpan s = Permitted (s .table)
+LawfulSpan s = Permitted (s .table) × Positive (s .table)
 
 module _ (below : Table → Option ℕ → ℕ → List Token → List Span) (j : ℕ)
-    (lawful : (T : Table) (o : Option ℕ) (i n : ℕ) (ts : List Token) → Permitted T → Nested ts → length ts < j
+    (lawful : (T : Table) (o : Option ℕ) (i n : ℕ) (ts : List Token) → Permitted T × Positive T → Nested ts → length ts < j
     → checkBlocks j T n ts ≡ passed tt → All LawfulSpan (below T o i ts)) where
-  itemSpans-lawful : (T : Table) (i : ℕ) (x : Item) → Permitted T → Inside j x × CheckedBy (checkBlocks j) T x → All LawfulSpan (itemSpans below T i x)
+  itemSpans-lawful : (T : Table) (i : ℕ) (x : Item) → Permitted T × Positive T → Inside j x × CheckedBy (checkBlocks j) T x → All LawfulSpan (itemSpans below T i x)
   unfolding itemSpans bodyTable
   itemSpans-lawful T i (single t) c k = tt
   itemSpans-lawful T i (pair ts) c k = lawful T (some i) (suc i) (k .1 .0) ts c (k .0 .0) (pair-within j ts (k .0 .1)) (k .1 .1)
@@ -214,10 +229,10 @@ module _ (below : Table → Option ℕ → ℕ → List Token → List Span) (j 
       let g = enter-sound T (k .1 .0) ds (k .1 .1) (k .1 .3) in
       let e : (k .1 .1) ≡ declareAll T (declarations ds) = g .2 in
       lawful (declareAll T (declarations ds)) (some (suc (i + length ds))) (suc (suc (i + length ds))) (k .1 .2) ts
-      (rw e at (permitted-sound (k .1 .1) (g .3))) (k .0 .0 .1) (scope-within j ds ts (k .0 .1)) (rw e at (k .1 .4))
+      (rw e at (permitted-sound (k .1 .1) (g .3)), positive-declared T (declarations ds) (c .1) (g .1)) (k .0 .0 .1) (scope-within j ds ts (k .0 .1)) (rw e at (k .1 .4))
 
   allItemSpans-lawful :
-      (T : Table) (i : ℕ) (xs : List Item) → Permitted T → All (λ x. Inside j x × CheckedBy (checkBlocks j) T x) xs
+      (T : Table) (i : ℕ) (xs : List Item) → Permitted T × Positive T → All (λ x. Inside j x × CheckedBy (checkBlocks j) T x) xs
       → All LawfulSpan (allItemSpans below T i xs)
   unfolding allItemSpans
   allItemSpans-lawful T i [] c k = tt
@@ -227,7 +242,7 @@ module _ (below : Table → Option ℕ → ℕ → List Token → List Span) (j 
 
 pub spans-lawful :
     (k j : ℕ) (T : Table) (o : Option ℕ) (i n : ℕ) (ts : List Token)
-    → Permitted T → Nested ts → length ts < j → checkBlocks j T n ts ≡ passed tt → All LawfulSpan (spans k T o i ts)
+    → Permitted T × Positive T → Nested ts → length ts < j → checkBlocks j T n ts ≡ passed tt → All LawfulSpan (spans k T o i ts)
 unfolding spans
 spans-lawful zero j T o i n ts c h b e = tt
 spans-lawful (suc k) zero T o i n ts c h b e = absurd (omega arith)

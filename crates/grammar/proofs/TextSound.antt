@@ -8,7 +8,7 @@ use lib.ListN.{length, length-append}
 use Rattle.grammar.specs.Bytes.{All, Bytes}
 use Rattle.grammar.specs.Token.{atom, structure, Token, symbol, opening, closing, keywordLet, keywordIn, keywordEnd, Atom}
 use Rattle.grammar.specs.Outcome.{passed}
-use Rattle.grammar.specs.Operator.{Table}
+use Rattle.grammar.specs.Operator.{Table, Permitted}
 use Rattle.grammar.specs.Declaration.{declareAll, declarations, allTokens, enter}
 use Rattle.grammar.specs.Span.{Item, single, pair, scope, items, itemTokens, allItemTokens}
 use Rattle.grammar.specs.SpanTree.{SpanTree, missing, operand, apply, yield}
@@ -17,7 +17,9 @@ use Rattle.grammar.specs.Climb.{climb}
 use Rattle.grammar.specs.Blocks.{bodyTable, checkBlocks, hangItem, hang, hangFound, treeIn}
 use Rattle.grammar.proofs.CheckedTrees.{InnerChecked, IsCheckedTree}
 use Rattle.grammar.proofs.Hung.{underBracket-some, underBlock-some, underOperator-some}
-use Rattle.grammar.proofs.Climb.{climb-sound}
+use Rattle.grammar.proofs.ClimbExact.{climb-sound}
+use Rattle.grammar.proofs.Positive.{Positive}
+use Rattle.grammar.proofs.Operators.{positive-declared}
 use Rattle.grammar.proofs.ItemsNested.{Passes, ItemNested, append-tokens, items-tokens, items-nested}
 use Rattle.grammar.proofs.Declarations.{enter-sound}
 use Rattle.grammar.proofs.OverloadingTest.{permitted-sound}
@@ -106,42 +108,42 @@ hung-node T l r m t u h g = (
 )
 
 module _ (inner : Table → List Token → Option Tree) (j : ℕ)
-    (sound : (T : Table) (i : ℕ) (ts : List Token) (t : Tree) → Nested ts → length ts < j → checkBlocks j T i ts ≡ passed tt → inner T ts ≡ some t → IsCheckedTree T ts t) where
-  hangItem-sound : (T : Table) (x : Item) (t : Tree) → Known j T x → hangItem inner T x ≡ some t → Hung T (operand x) t
+    (sound : (T : Table) → Permitted T × Positive T → (i : ℕ) (ts : List Token) (t : Tree) → Nested ts → length ts < j → checkBlocks j T i ts ≡ passed tt → inner T ts ≡ some t → IsCheckedTree T ts t) where
+  hangItem-sound : (T : Table) → Permitted T × Positive T → (x : Item) (t : Tree) → Known j T x → hangItem inner T x ≡ some t → Hung T (operand x) t
   unfolding hangItem bodyTable
-  hangItem-sound T (single t₀) t k e = let h : t ≡ leaf t₀ = cc in rw h (hung-single T t₀)
-  hangItem-sound T (pair ts) t k e =
+  hangItem-sound T p (single t₀) t k e = let h : t ≡ leaf t₀ = cc in rw h (hung-single T t₀)
+  hangItem-sound T p (pair ts) t k e =
       let h = underBracket-some (inner T ts) t e in
-      rw (h .2) (hung-bracket T ts (h .0) (sound T (k .1 .0) ts (h .0) (k .0 .0) (pair-within j ts (k .0 .1)) (k .1 .1) (h .1)))
-  hangItem-sound T (scope ds ts) t k e =
+      rw (h .2) (hung-bracket T ts (h .0) (sound T p (k .1 .0) ts (h .0) (k .0 .0) (pair-within j ts (k .0 .1)) (k .1 .1) (h .1)))
+  hangItem-sound T p (scope ds ts) t k e =
       let h = underBlock-some (declarations ds) (inner (declareAll T (declarations ds)) ts) t e in
       let g = enter-sound T (k .1 .0) ds (k .1 .1) (k .1 .3) in
       let f : inner (k .1 .1) ts ≡ some (h .0) = rw (g .2) (h .1) in
       rw (h .2)
       (hung-block T (k .1 .0) ds ts (k .1 .1) (h .0) (k .1 .3)
-      (sound (k .1 .1) (k .1 .2) ts (h .0) (k .0 .0 .1) (scope-within j ds ts (k .0 .1)) (k .1 .4) f))
+      (sound (k .1 .1) (permitted-sound (k .1 .1) (g .3), rw (g .2) (positive-declared T (declarations ds) (p .1) (g .1))) (k .1 .2) ts (h .0) (k .0 .0 .1) (scope-within j ds ts (k .0 .1)) (k .1 .4) f))
 
-  hang-sound : (T : Table) (s : SpanTree) (t : Tree) → All (Known j T) (yield s) → hang inner T s ≡ some t → Hung T s t
+  hang-sound : (T : Table) → Permitted T × Positive T → (s : SpanTree) (t : Tree) → All (Known j T) (yield s) → hang inner T s ≡ some t → Hung T s t
   unfolding hang yield
-  hang-sound T missing t k e = let h : t ≡ nothing = cc in rw h (hung-nothing T)
-  hang-sound T (operand x) t k e = hangItem-sound T x t (k .0) e
-  hang-sound T (apply l m r) t k e =
+  hang-sound T p missing t k e = let h : t ≡ nothing = cc in rw h (hung-nothing T)
+  hang-sound T p (operand x) t k e = hangItem-sound T p x t (k .0) e
+  hang-sound T p (apply l m r) t k e =
       let h = underOperator-some m (hang inner T l) (hang inner T r) t e in
       rw (h .4)
       (hung-node T l r m (h .0) (h .1)
-      (hang-sound T l (h .0) (all-left (Known j T) (yield l) (single (symbol m) ∷ yield r) k) (h .2))
-      (hang-sound T r (h .1) ((all-right (Known j T) (yield l) (single (symbol m) ∷ yield r) k) .1) (h .3)))
+      (hang-sound T p l (h .0) (all-left (Known j T) (yield l) (single (symbol m) ∷ yield r) k) (h .2))
+      (hang-sound T p r (h .1) ((all-right (Known j T) (yield l) (single (symbol m) ∷ yield r) k) .1) (h .3)))
 
   found-sound :
-      (T : Table) (i : ℕ) (ts : List Token) (t : Tree)
+      (T : Table) → Permitted T × Positive T → (i : ℕ) (ts : List Token) (t : Tree)
       → Nested ts → length ts < suc j → checkBlocks (suc j) T i ts ≡ passed tt
       → (o : Option SpanTree) → climb T (items ts) ≡ o → hangFound inner T o ≡ some t → IsCheckedTree T ts t
   unfolding hangFound
-  found-sound T i ts t n b c none q e = impossible cc
-  found-sound T i ts t n b c (some s) q e =
-      let g = climb-sound T (items ts) s q in
+  found-sound T p i ts t n b c none q e = impossible cc
+  found-sound T p i ts t n b c (some s) q e =
+      let g = climb-sound T (p .0) (p .1) (items ts) s q in
       let y = g .yields in
-      let h = hang-sound T s t (rw y (known-items j T i ts n (omega arith) c)) e in
+      let h = hang-sound T p s t (rw y (known-items j T i ts n (omega arith) c)) e in
       record {
         tokens = h .1 ∙ ap allItemTokens y ∙ items-tokens ts 0 (n 0);
         outer = (rw (h .0) (g .admitted), rw (h .0) (g .there));
@@ -150,9 +152,9 @@ module _ (inner : Table → List Token → Option Tree) (j : ℕ)
 
 -- What the search finds is a tree of the tokens: by induction on its fuel `k`; `j` is the fuel of the checks.
 pub treeIn-sound :
-    (k j : ℕ) (T : Table) (i : ℕ) (ts : List Token) (t : Tree)
+    (k j : ℕ) (T : Table) → Permitted T × Positive T → (i : ℕ) (ts : List Token) (t : Tree)
     → Nested ts → length ts < j → checkBlocks j T i ts ≡ passed tt → treeIn k T ts ≡ some t → IsCheckedTree T ts t
 unfolding treeIn
-treeIn-sound zero j T i ts t n b c e = impossible cc
-treeIn-sound (suc k) zero T i ts t n b c e = absurd (omega arith)
-treeIn-sound (suc k) (suc j) T i ts t n b c e = found-sound (treeIn k) j (treeIn-sound k j) T i ts t n b c (climb T (items ts)) refl e
+treeIn-sound zero j T p i ts t n b c e = impossible cc
+treeIn-sound (suc k) zero T p i ts t n b c e = absurd (omega arith)
+treeIn-sound (suc k) (suc j) T p i ts t n b c e = found-sound (treeIn k) j (treeIn-sound k j) T p i ts t n b c (climb T (items ts)) refl e

@@ -16,7 +16,7 @@ use Rattle.grammar.specs.Climb.{climb}
 use Rattle.grammar.specs.Blocks.{bodyTable, underBracket, underBlock, underOperator, hangItem, hang, hangFound, treeIn, treeOf}
 use Rattle.grammar.proofs.CheckedTrees.{InnerChecked, IsCheckedTree}
 use Rattle.grammar.proofs.Unambiguous.{permitted-unambiguous}
-use Rattle.grammar.proofs.ClimbComplete.{climb-complete}
+use Rattle.grammar.proofs.ClimbExact.{climb-complete}
 use Rattle.grammar.proofs.Items.{items-flat}
 use Rattle.grammar.proofs.Declarations.{declarations-of}
 
@@ -63,7 +63,7 @@ unfolding treeIn hangFound
 treeIn-complete zero T t c s h n = absurd (omega arith)
 treeIn-complete (suc k) T t c s h n =
     let e : climb T (items (flat t)) ≡ some (spanTree t) =
-    climb-complete T (permitted-unambiguous T c) (items (flat t)) (spanTree t)
+    climb-complete T c (items (flat t)) (spanTree t)
     (record { yields = sym (items-flat t); admitted = s .0; there = s .1 }) in
     ap (hangFound (treeIn k) T) e ∙ hang-complete (treeIn k) k (treeIn-complete k) T c t h (omega arith)
 

@@ -4,7 +4,7 @@ use mathlib.Core.Bool.{true, false, _&&_}
 use mathlib.Core.List.{List, [], _∷_, _++_}
 use mathlib.Core.Option.{Option, none, some}
 use Prim.Native.Nat.{ℕ, suc, _*_, _≤_}
-use lib.Dec.{leb}
+use lib.Dec.{leb, eqb}
 use lib.ListN.{length, drop, getD}
 use Rattle.grammar.specs.Spans.{Span}
 use Rattle.grammar.specs.Bytes.{Bytes}
@@ -16,7 +16,7 @@ use Rattle.grammar.specs.Declaration.{startTable}
 use Rattle.grammar.specs.Fault.{longestText, mostTokens}
 use Rattle.grammar.specs.Tree.{Tree}
 use Rattle.grammar.specs.Blank.{blankRule}
-use Rattle.grammar.specs.Blocks.{checkBlocks, spans, treelessOpener, treeOf}
+use Rattle.grammar.specs.Blocks.{checkBlocks, spans, treelessOpener, lostToken, treeOf}
 use Rattle.grammar.specs.Nodes.{count, words, wordsPerNode}
 use Rattle.grammar.specs.Canonical.{canonical, canonicalText}
 
@@ -89,6 +89,20 @@ rejection n p = record { number = n; offset = p; count = 0 }
 
 unfoldable pub success : ℕ → Answer
 success c = record { number = 0; offset = 0; count = c }
+
+-- Where a text without a tree is lost, from its tokens. (A text that has none, because they are refused, is lost at the refusal.)
+unfoldable pub lostOffset : Bytes → Outcome (List Placed) → ℕ
+lostOffset text (refused n p) = p
+lostOffset text (passed ps) = offsetOf text ps (lostToken (spansOf ps))
+
+-- Locating: 0 for a text that is read; a refusal, in the place of 11's own place that at which the text is lost.
+unfoldable pub locatedAt : Bytes → Outcome Reading → Answer
+locatedAt text (refused n p) =
+    elim (eqb n 11) [ true ↦ rejection n (lostOffset text (scan mostTokens 0 text)) | false ↦ rejection n p ]
+locatedAt text (passed r) = success 0
+
+unfoldable pub locate : Bytes → Answer
+locate text = locatedAt text (readText text)
 
 -- What a service leaves: its answer and the contents of the lent buffer.
 pub record Result : Type 0 where

@@ -9,10 +9,10 @@ use Rattle.grammar.specs.Outcome.{Outcome, passed, andThen}
 use Rattle.grammar.specs.Operator.{Table}
 use Rattle.grammar.specs.Declaration.{Declaration, declareAll, declarations, enter}
 use Rattle.grammar.specs.Span.{Item, single, pair, scope, itemTokens, items}
-use Rattle.grammar.specs.Spans.{Span}
+use Rattle.grammar.specs.Spans.{Span, startOf}
 use Rattle.grammar.specs.SpanTree.{SpanTree, missing, operand, apply}
 use Rattle.grammar.specs.Tree.{Tree, nothing, leaf, bracket, block, node}
-use Rattle.grammar.specs.Climb.{climb}
+use Rattle.grammar.specs.Climb.{Ending, found, stops, search, climb}
 
 -- The operators in force in the body of a block with the declarations `ds`.
 unfoldable pub bodyTable : Table → List Token → Table
@@ -59,6 +59,11 @@ firstWithout (s ∷ ss) = elim (climb (s .table) (s .contents)) [ none ↦ some 
 -- Its place: "0, the `(`, or the `in`" (none for the whole text).
 unfoldable pub treelessOpener : List Span → Option ℕ
 treelessOpener ss = elim (firstWithout ss) [ none ↦ none | some o ↦ o ]
+
+-- Where the tokens of that span are lost: the token at which the search stops.
+unfoldable pub lostToken : List Span → ℕ
+lostToken [] = 0
+lostToken (s ∷ ss) = elim (search (s .table) (startOf (s .opener)) (s .contents)) [ found t ↦ lostToken ss | stops n ↦ n ]
 
 -- The tree of a text: the tree of its outermost span, with the trees of the inner ones hung under their brackets and blocks.
 unfoldable pub underBracket : Option Tree → Option Tree

@@ -16,7 +16,8 @@ use Rattle.grammar.specs.Tree.{Tree, nothing, leaf, bracket, block, node
 use Rattle.grammar.specs.Blank.{Blank, blankRule}
 use Rattle.grammar.specs.Canonical.{canonical, canonicalText, NoSpare}
 use Rattle.grammar.specs.Operator.{Permitted, Table, inForce}
-use Rattle.grammar.specs.Spans.{startOf, Span, SpanOf}
+use Rattle.grammar.specs.Spans.{startOf, numberBehind, Span, SpanOf}
+use Rattle.grammar.specs.Continuation.{LostBehind}
 use Rattle.grammar.specs.Fault.{Rules, current, PastUnder, Past}
 use Rattle.grammar.specs.Abstract.{Agree}
 
@@ -81,6 +82,15 @@ pub record FirstWithout (text : Bytes) (ts : List Token) (p : ℕ) : Type 0 wher
   pub treeless : HasNoTree span
   pub first : (s : Span) → SpanOf ts s → HasNoTree s → startOf (span .opener) ≤ startOf (s .opener)
   pub place : SpanPlace text ts (span .opener) p
+
+-- `p` is the place at which that span is lost: the first byte of its first item with which nothing that begins so has a tree; where its items
+-- could go on, the place at which it ends, its closer or the text's length.
+pub record LostAt (text : Bytes) (ts : List Token) (p : ℕ) : Type 0 where
+  pub opener : ℕ
+  pub without : FirstWithout text ts opener
+  pub before : List Item
+  pub lost : LostBehind (without .span .table) (without .span .contents) before
+  pub place : TokenAt text ts (numberBehind (without .span) before) p
 
 -- "An empty bracket pair or block body" in a text past checks 1 to 10 (02, §7).
 pub record EmptyInside (text : Bytes) : Type 0 where

@@ -3,21 +3,27 @@
 use mathlib.Core.Bool.{Bool, true, false, _&&_, _||_, not}
 use mathlib.Core.List.{List, [], _∷_}
 use mathlib.Core.Option.{Option, none, some}
+use Prim.Native.Nat.{ℕ, _+_}
 use lib.Dec.{ltb, eqb}
+use lib.ListN.{length}
 use Rattle.grammar.specs.Bytes.{Bytes}
 use Rattle.grammar.specs.Token.{symbol, number, quoted}
-use Rattle.grammar.specs.Operator.{Infix, Postfix, Role, Table, role}
-use Rattle.grammar.specs.Span.{Item, single, pair, scope}
+use Rattle.grammar.specs.Operator.{Prefix, Infix, Postfix, Role, Table, role, isSome}
+use Rattle.grammar.specs.Span.{Item, single, pair, scope, itemTokens}
 use Rattle.grammar.specs.SpanTree.{
   SpanTree,
   missing,
   operand,
   apply,
   present,
+  fixityBy,
+  roleOfFixity,
   roleOver,
   root,
   isRight,
-  admitsBoth,
+  onLeft,
+  onRight,
+  admits,
   isOperand,
 }
 
@@ -68,29 +74,101 @@ unfoldable pub closed : Stack → SpanTree → SpanTree
 closed empty o = o
 closed (waiting l t w) o = closed w (apply l t o)
 
--- The pass: `o` is the operand that has just ended, or `missing`. Two operands with nothing between them have no tree.
-unfoldable pub run : Table → Stack → SpanTree → List Item → Option SpanTree
-run T w o [] = some (closed w o)
-run T w o (i ∷ is) =
-    elim (isOperand T i) [
-      | true ↦ elim (present o) [ true ↦ none | false ↦ run T w (operand i) is ]
-      | false ↦ elim (symbolAt i) [ none ↦ none | some m ↦ run T (pushed T m w o) missing is ]
+-- How far the pass has come: what waits, and the operand that has just ended, or `missing`.
+pub record Progress : Type 0 where
+  pub stack : Stack
+  pub last : SpanTree
+
+-- Nothing has come.
+unfoldable pub unread : Progress
+unread = record { stack = empty; last = missing }
+
+-- What comes is tested as it comes, so that nothing has to be tested when an operator closes.
+
+-- The role in which an operator that waits takes an operand on its right.
+unfoldable pub taking : Table → SpanTree → Bytes → Option Role
+taking T l t = roleOfFixity T t (fixityBy (present l) true)
+
+-- An operand may come behind an operator, if that takes one.
+unfoldable pub takes : Table → Stack → Bool
+takes T empty = true
+takes T (waiting l t w) = isSome (taking T l t)
+
+-- An operator may come behind one that waits in the prefix role `c`, if that takes an operand and admits it.
+unfoldable pub admitsPrefix : Option Role → Role → Bool
+admitsPrefix none c = false
+admitsPrefix (some q) c = admits onRight q (some c)
+
+unfoldable pub bears : Table → Stack → Role → Bool
+bears T empty c = true
+bears T (waiting l t w) c = admitsPrefix (taking T l t) c
+
+unfoldable pub fitsBelow : Table → Option Role → Stack → Bool
+fitsBelow T none w = false
+fitsBelow T (some c) w = bears T w c
+
+-- An operator may come behind an operand, whose root has the role `o`, if it admits that on its left.
+unfoldable pub fitsLeft : Option Role → Option Role → Bool
+fitsLeft none o = false
+fitsLeft (some d) o = admits onLeft d o
+
+-- The operator `m` has come behind `o`, and those that give way to it have closed; `w` waits below it.
+unfoldable pub arrives : Table → SpanTree → Bytes → Stack → Bool
+arrives T o m w =
+    elim (present o) [
+      | true ↦ fitsLeft (leftRole T m) (root T o)
+      | false ↦ fitsBelow T (role T m Prefix) w
     ]
 
--- "a mark of it in a role in force there over trees of what is left .. each operand admitted as above", as a test.
-unfoldable pub fits : Table → SpanTree → Bytes → SpanTree → Bool
-fits T l m r = admitsBoth (roleOver T l m r) (root T l) (root T r)
+unfoldable pub arrived : Table → Stack → Option Progress
+arrived T empty = none
+arrived T (waiting o m w) = elim (arrives T o m w) [ true ↦ some (record { stack = waiting o m w; last = missing }) | false ↦ none ]
 
-unfoldable pub admittedTest : Table → SpanTree → Bool
-admittedTest T missing = true
-admittedTest T (operand i) = isOperand T i
-admittedTest T (apply l m r) = (admittedTest T l && admittedTest T r) && fits T l m r
+-- An item comes: what waits behind it, or none where it may not come.
+unfoldable pub operandStep : Table → Progress → Item → Option Progress
+operandStep T u i =
+    elim (present (u .last)) [
+      | true ↦ none
+      | false ↦ elim (takes T (u .stack)) [ true ↦ some (record { stack = u .stack; last = operand i }) | false ↦ none ]
+    ]
 
--- "Nothing at all has no tree"; and what was found is one only if every operator in it admits its operands.
-unfoldable pub checked : Table → Option SpanTree → Option SpanTree
-checked T none = none
-checked T (some s) = elim (present s && admittedTest T s) [ true ↦ some s | false ↦ none ]
+unfoldable pub operatorStep : Table → Progress → Option Bytes → Option Progress
+operatorStep T u none = none
+operatorStep T u (some m) = arrived T (pushed T m (u .stack) (u .last))
+
+unfoldable pub advance : Table → Progress → Item → Option Progress
+advance T u i = elim (isOperand T i) [ true ↦ operandStep T u i | false ↦ operatorStep T u (symbolAt i) ]
+
+-- Nothing more comes. If an operator came last, it has to be postfix.
+unfoldable pub postfixLast : Table → Stack → Option SpanTree
+postfixLast T empty = none
+postfixLast T (waiting l t w) = elim (isSome (roleOver T l t missing)) [ true ↦ some (closed w (apply l t missing)) | false ↦ none ]
+
+unfoldable pub finish : Table → Progress → Option SpanTree
+finish T u = elim (present (u .last)) [ true ↦ some (closed (u .stack) (u .last)) | false ↦ postfixLast T (u .stack) ]
+
+-- How the pass ends: with the tree, or at the first token of the item that may not come; where something is missing at the end, at the token
+-- behind the last item.
+pub data Ending : Type 0 where
+  found : SpanTree → Ending
+  stops : ℕ → Ending
+
+unfoldable pub ending : ℕ → Option SpanTree → Ending
+ending n none = stops n
+ending n (some s) = found s
+
+-- The pass over the items that begin at token number `n`.
+unfoldable pub climbFrom : Table → ℕ → Progress → List Item → Ending
+climbFrom T n u [] = ending n (finish T u)
+climbFrom T n u (i ∷ is) = elim (advance T u i) [ none ↦ stops n | some v ↦ climbFrom T (n + length (itemTokens i)) v is ]
+
+unfoldable pub search : Table → ℕ → List Item → Ending
+search T n is = climbFrom T n unread is
 
 -- The tree of a span, if there is one.
+unfoldable pub treeFound : Ending → Option SpanTree
+treeFound (found s) = some s
+treeFound (stops n) = none
+
 unfoldable pub climb : Table → List Item → Option SpanTree
-climb T is = checked T (run T empty missing is)
+climb T is = treeFound (search T 0 is)

@@ -14,6 +14,7 @@ pub mod SpanTree
 pub mod Tree
 pub mod Blank
 pub mod Climb
+pub mod Continuation
 pub mod Widest
 pub mod Blocks
 pub mod Nodes

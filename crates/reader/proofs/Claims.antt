@@ -32,8 +32,7 @@ use Rattle.grammar.proofs.Numbers as Numbers
 use Rattle.grammar.proofs.Scanned as Scanned
 use Rattle.grammar.proofs.Names as Names
 use Rattle.grammar.proofs.StripDeclarations as StripDeclarations
-use Rattle.grammar.proofs.ClimbComplete.{climb-unique}
-use Rattle.grammar.proofs.Unambiguous.{permitted-unambiguous}
+use Rattle.grammar.proofs.ClimbExact.{climb-unique}
 use Rattle.grammar.proofs.WidestRoot.{root-widest}
 use Rattle.grammar.proofs.TreeOperators as TreeOperators
 use Rattle.grammar.proofs.Faults as Faults
@@ -127,7 +126,7 @@ same-bytes = CanonicalCalls.same-bytes
 -- operators that keep the overloading rule: no operator has both an infix and a postfix role, or every one meets the four conditions.
 pub one-span-tree :
     (T : Table) → Permitted T → (is : List Item) (s u : SpanTree) → IsSpanTree T is s → IsSpanTree T is u → s ≡ u
-one-span-tree T h = climb-unique T (permitted-unambiguous T h)
+one-span-tree = climb-unique
 
 -- The operators of a tree are the words and signs of the span with a role in force, in their order, and no others, whatever the table.
 pub tree-operators : (T : Table) (s : SpanTree) → Admitted T s → operatorsOf s ≡ operatorsAmong T (yield s)

@@ -1,5 +1,6 @@
 pub mod Reading
 pub mod Writing
+pub mod Locating
 pub mod Serving
 pub mod Fits
 pub mod NameWriting
@@ -10,4 +11,6 @@ pub mod NameCalls
 pub mod CanonicalCalls
 pub mod BlankCalls
 pub mod Settled
+pub mod LocateCalls
 pub mod Claims
+pub mod PlaceClaims

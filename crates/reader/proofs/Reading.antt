@@ -3,19 +3,21 @@ use mathlib.Core.Path.{_≡_, refl, sym, ap, ap₂, _∙_}
 use mathlib.Core.List.{List, [], _∷_}
 use Prim.Native.Nat.{ℕ, suc, _+_, _*_, _≤_, _<_}
 use native.Mathlib.Omega.{arith}
+use mathlib.Core.Bool.{Bool, true, false}
+use lib.Dec.{eqb}
 use lib.ListN.{length}
-use borrow.Author.Tests.{le-leb, lt-leb}
-use Rattle.grammar.specs.Fault.{longestText}
+use borrow.Author.Tests.{le-leb, lt-leb, eqb-true}
+use Rattle.grammar.specs.Fault.{longestText, mostTokens}
 use Rattle.grammar.specs.Bytes.{Bytes}
 use Rattle.grammar.specs.Outcome.{Outcome, refused, passed}
 use Rattle.grammar.specs.Operator.{Table}
 use Rattle.grammar.specs.Declaration.{startTable, declareAll, allTokens}
 use Rattle.grammar.specs.Tree.{Tree, nothing, leaf, bracket, block, node, flat}
 use Rattle.grammar.specs.Nodes.{count, words, wordsPerNode}
-use Rattle.grammar.specs.Scan.{Placed}
+use Rattle.grammar.specs.Scan.{Placed, scan}
 use Rattle.grammar.specs.Blank.{blankRule}
 use Rattle.grammar.specs.Answer as G
-use Rattle.grammar.specs.Answer.{Reading, tokensOf, offsetOf, readText, readInto, readingWords, rejection, success}
+use Rattle.grammar.specs.Answer.{Reading, tokensOf, offsetOf, readText, readInto, readingWords, lostOffset, rejection, success}
 use Rattle.grammar.proofs.Logic.{impossible}
 use Rattle.grammar.proofs.Scanned.{length-tokens}
 use Rattle.grammar.proofs.ReadingTrees.{is-blank}
@@ -28,9 +30,9 @@ use Rattle.rows.proofs.TreeTokens.{ready-tokened}
 use Rattle.canonical_text.specs.Brackets as Brackets
 use Rattle.canonical_text.proofs.ReadyTree.{ready-tree}
 use Rattle.nodes.specs.Building.{rows, Stands, Buildable, Built}
-use Rattle.checks.specs.Checking.{Passes, Outcomes, Checking}
+use Rattle.checks.specs.Checking.{refusalOf, Passes, Outcomes, Checking}
 use Rattle.checks.specs.declared.Checked.{Checked}
-use Rattle.checks.specs.declared.Checked.the-variants.{Blank, Passed, Refused}
+use Rattle.checks.specs.declared.Checked.the-variants.{Blank, NoTree, Passed, Refused}
 use Rattle.reader.specs.Found.{Found}
 use Rattle.reader.specs.Answered.{answerOf, resultOf, refusedWith, written, Reads}
 
@@ -39,12 +41,34 @@ pub reads-long : (text : Bytes) (N : List ℕ) → longestText < length text →
 unfolding G.read readText readInto rejection answerOf resultOf
 reads-long text N l = rw (lt-leb (length text) longestText l, readText)
 
+-- A refusal.
+pub reads-refused : (text : Bytes) (N : List ℕ) (m p : ℕ) → readText text ≡ refused m p → Reads text N N (refusedWith m p)
+unfolding G.read readInto rejection answerOf resultOf
+reads-refused text N m p e = rw e
+
+-- It is no other answer of the checks.
+not-passed : (text : Bytes) (m p n k at : ℕ) → refusalOf text m p ≡ Passed n k at → ⊥
+unfolding refusalOf
+not-passed text m p n k at e = go (eqb m 11) refl
+  where
+    go : (b : Bool) → eqb m 11 ≡ b → ⊥
+    go true f = let z : NoTree p _ ≡ Passed n k at = rw (f, refusalOf) at e in impossible cc
+    go false f = let z : Refused m p ≡ Passed n k at = rw (f, refusalOf) at e in impossible cc
+
+not-blank : (text : Bytes) (m p : ℕ) → refusalOf text m p ≡ Blank → ⊥
+unfolding refusalOf
+not-blank text m p e = go (eqb m 11) refl
+  where
+    go : (b : Bool) → eqb m 11 ≡ b → ⊥
+    go true f = let z : NoTree p _ ≡ Blank = rw (f, refusalOf) at e in impossible cc
+    go false f = let z : Refused m p ≡ Blank = rw (f, refusalOf) at e in impossible cc
+
 module _ (text : Bytes) (K R O : List ℕ) (c : Checked) (h : Checking text K R O c) where
   pub found : (n k at : ℕ) → c ≡ Passed n k at → Found text K R O n k at
   found n k at e = go (readText text) refl h
     where
       go : (o : Outcome Reading) → readText text ≡ o → Outcomes text K R O c o → Found text K R O n k at
-      go (refused m p) f g = let z = sym g ∙ e in impossible cc
+      go (refused m p) f g = absurd (not-passed text m p n k at (sym g ∙ e))
       go (passed r) f g = there r f (r .tokens) g
         where
           there : (s : Reading) → readText text ≡ passed s → (qs : List Placed) → Passes text K R O c s qs → Found text K R O n k at
@@ -54,15 +78,46 @@ module _ (text : Bytes) (K R O : List ℕ) (c : Checked) (h : Checking text K R 
               let y : g .0 .0 ≡ at = cc in
               record { reading = s; reads = f; tokens = cc; nodes = cc; root = ap suc (sym y) ∙ g .0 .2; ready = g .1 }
 
-  -- A refusal.
-  pub refused-reads : (m p : ℕ) → c ≡ Refused m p → readText text ≡ refused m p
+  -- A refusal other than 11, ..
+  pub refused-reads : (m p : ℕ) → c ≡ Refused m p → (readText text ≡ refused m p) × (eqb m 11 ≡ false)
+  unfolding refusalOf
   refused-reads m p e = go (readText text) refl h
     where
-      go : (o : Outcome Reading) → readText text ≡ o → Outcomes text K R O c o → readText text ≡ refused m p
-      go (refused x q) f g = let z : Refused x q ≡ Refused m p = sym g ∙ e in f ∙ cc
+      told : (x q : ℕ) → readText text ≡ refused x q → (b : Bool) → eqb x 11 ≡ b → c ≡ refusalOf text x q → (readText text ≡ refused m p) × (eqb m 11 ≡ false)
+      told x q f true t g = let z : NoTree q _ ≡ Refused m p = sym (rw (t, refusalOf) at g) ∙ e in impossible cc
+      told x q f false t g =
+          let z : Refused x q ≡ Refused m p = sym (rw (t, refusalOf) at g) ∙ e in
+          let same : x ≡ m = cc in
+          (f ∙ cc, rw same at t)
+
+      go : (o : Outcome Reading) → readText text ≡ o → Outcomes text K R O c o → (readText text ≡ refused m p) × (eqb m 11 ≡ false)
+      go (refused x q) f g = told x q f (eqb x 11) refl g
       go (passed r) f g = there r (r .tokens) g
         where
-          there : (s : Reading) (qs : List Placed) → Passes text K R O c s qs → readText text ≡ refused m p
+          there : (s : Reading) (qs : List Placed) → Passes text K R O c s qs → (readText text ≡ refused m p) × (eqb m 11 ≡ false)
+          there s [] g = let z = sym g ∙ e in impossible cc
+          there s (q ∷ qs) g = let z = sym (g .0 .1) ∙ e in impossible cc
+
+  -- .. and 11, with the place at which the text is lost.
+  pub treeless-reads : (p l : ℕ) → c ≡ NoTree p l → (readText text ≡ refused 11 p) × (l ≡ lostOffset text (scan mostTokens 0 text))
+  unfolding refusalOf
+  treeless-reads p l e = go (readText text) refl h
+    where
+      Goal : Type 0
+      Goal = (readText text ≡ refused 11 p) × (l ≡ lostOffset text (scan mostTokens 0 text))
+
+      told : (x q : ℕ) → readText text ≡ refused x q → (b : Bool) → eqb x 11 ≡ b → c ≡ refusalOf text x q → Goal
+      told x q f true t g =
+          let z : NoTree q (lostOffset text (scan mostTokens 0 text)) ≡ NoTree p l = sym (rw (t, refusalOf) at g) ∙ e in
+          let eleven : x ≡ 11 = eqb-true x 11 t in
+          (f ∙ cc, cc)
+      told x q f false t g = let z : Refused x q ≡ NoTree p l = sym (rw (t, refusalOf) at g) ∙ e in impossible cc
+
+      go : (o : Outcome Reading) → readText text ≡ o → Outcomes text K R O c o → Goal
+      go (refused x q) f g = told x q f (eqb x 11) refl g
+      go (passed r) f g = there r (r .tokens) g
+        where
+          there : (s : Reading) (qs : List Placed) → Passes text K R O c s qs → Goal
           there s [] g = let z = sym g ∙ e in impossible cc
           there s (q ∷ qs) g = let z = sym (g .0 .1) ∙ e in impossible cc
 
@@ -72,7 +127,7 @@ module _ (text : Bytes) (K R O : List ℕ) (c : Checked) (h : Checking text K R 
   blank-reads e = go (readText text) refl h
     where
       go : (o : Outcome Reading) → readText text ≡ o → Outcomes text K R O c o → readText text ≡ passed (record { tokens = []; tree = blankRule })
-      go (refused m p) f g = let z = sym g ∙ e in impossible cc
+      go (refused m p) f g = absurd (not-blank text m p (sym g ∙ e))
       go (passed r) f g = there (r .tokens) refl g
         where
           there : (qs : List Placed) → r .tokens ≡ qs → Passes text K R O c r qs → readText text ≡ passed (record { tokens = []; tree = blankRule })
@@ -85,10 +140,6 @@ module _ (text : Bytes) (K R O : List ℕ) (c : Checked) (h : Checking text K R 
   pub reads-blank : (N : List ℕ) → c ≡ Blank → Reads text N N (written 0)
   unfolding G.read readInto success answerOf resultOf readingWords words count G.over
   reads-blank N e = rw (blank-reads e) (rw (le-leb (wordsPerNode * count blankRule) (length N) (omega arith), readInto))
-
-  pub reads-refused : (N : List ℕ) (m p : ℕ) → c ≡ Refused m p → Reads text N N (refusedWith m p)
-  unfolding G.read readInto rejection answerOf resultOf
-  reads-refused N m p e = rw (refused-reads m p e)
 
 -- The roles of a tree that stands in the rows.
 tree-roled : (K R : List ℕ) (T : Table) (i : ℕ) (t : Tree) → Bounded T → Brackets.Stands K R T i t → Roled R T i t

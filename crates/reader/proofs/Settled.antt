@@ -50,7 +50,10 @@ buffer-settled B t C C′ c d h g =
     let rest = h .behind ∙ ap (λ k. drop k B) e ∙ sym (g .behind) ∙ ap (λ k. drop k C′) (sym e) in
     (e, same-parts c C C′ front rest)
 
-ten-or-eleven : (k : ℕ) → k ≤ 11 → (k ≤ 10) ⊎ (k ≡ 11)
+pub same-answer : {a b : Answer} → a .number ≡ b .number → a .offset ≡ b .offset → a .count ≡ b .count → a ≡ b
+same-answer n p c i = record { number = n i; offset = p i; count = c i }
+
+pub ten-or-eleven : (k : ℕ) → k ≤ 11 → (k ≤ 10) ⊎ (k ≡ 11)
 ten-or-eleven k l = go (leb k 10) refl
   where
     go : (b : Bool) → leb k 10 ≡ b → (k ≤ 10) ⊎ (k ≡ 11)
@@ -60,9 +63,6 @@ ten-or-eleven k l = go (leb k 10) refl
 module _ {rules : Rules} {own : ℕ} {Fits : Tree → Type 0} {Holds : List ℕ → ℕ → Tree → Type 0} {text : Bytes} {B : List ℕ} where
   -- Two calls that meet the same demands.
   module _ {B′ B″ : List ℕ} {a b : Answer} (h : Right rules own Fits Holds text B B′ a) (g : Right rules own Fits Holds text B B″ b) where
-    same-answer : a .number ≡ b .number → a .offset ≡ b .offset → a .count ≡ b .count → a ≡ b
-    same-answer n p c i = record { number = n i; offset = p i; count = c i }
-
     -- Both refuse.
     refusals : (a .number ≡ 0 → ⊥) → b .number ≡ a .number → b .offset ≡ a .offset → (a ≡ b) × (B′ ≡ B″)
     refusals f n p =

@@ -9,6 +9,7 @@ use lib.ListN.{length}
 use borrow.Author.Tests.{le-leb, lt-leb}
 use Rattle.grammar.specs.Fault.{longestText}
 use Rattle.grammar.specs.Bytes.{Bytes}
+use Rattle.grammar.specs.Outcome.{refused}
 use Rattle.grammar.specs.Tree.{flat}
 use Rattle.grammar.specs.Canonical.{canonical, canonicalText, joinTokens}
 use Rattle.grammar.specs.Answer as G
@@ -16,10 +17,10 @@ use Rattle.grammar.specs.Answer.{Reading, readText, readingText, canonicalizeIn
 use Rattle.canonical_text.specs.Pieces.{Prepared, joinPieces, pieces}
 use Rattle.checks.specs.Checking.{Checking}
 use Rattle.checks.specs.declared.Checked.{Checked}
-use Rattle.checks.specs.declared.Checked.the-variants.{Blank, Refused}
+use Rattle.checks.specs.declared.Checked.the-variants.{Blank}
 use Rattle.reader.specs.Answered.{answerOf, resultOf, refusedWith, written, Canonicalizes}
 use Rattle.reader.specs.Found.{Found}
-use Rattle.reader.proofs.Reading.{refused-reads, blank-reads}
+use Rattle.reader.proofs.Reading.{blank-reads}
 
 -- Check 1.
 pub canonical-too-long : (text : Bytes) (B : List ℕ) → longestText < length text → Canonicalizes text B B (refusedWith 1 longestText)
@@ -27,11 +28,9 @@ unfolding G.canonicalize readText canonicalizeInto rejection answerOf resultOf
 canonical-too-long text B l = rw (lt-leb (length text) longestText l, readText)
 
 -- A refusal.
-pub canonical-refused :
-    (text : Bytes) (K R O : List ℕ) (c : Checked) → Checking text K R O c → (B : List ℕ) (m p : ℕ) → c ≡ Refused m p
-    → Canonicalizes text B B (refusedWith m p)
+pub canonical-refused : (text : Bytes) (B : List ℕ) (m p : ℕ) → readText text ≡ refused m p → Canonicalizes text B B (refusedWith m p)
 unfolding G.canonicalize canonicalizeInto rejection answerOf resultOf
-canonical-refused text K R O c h B m p e = rw (refused-reads text K R O c h m p e)
+canonical-refused text B m p e = rw e
 
 -- A blank text.
 pub canonical-blank : (text : Bytes) (K R O : List ℕ) (c : Checked) → Checking text K R O c → (B : List ℕ) → c ≡ Blank → Canonicalizes text B B (written 0)

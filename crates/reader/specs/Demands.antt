@@ -11,11 +11,11 @@ use Rattle.grammar.specs.Declaration.{Declaration, startTable}
 use Rattle.grammar.specs.Spelling.{Spells, TokenAt}
 use Rattle.grammar.specs.Tree.{Tree, flat}
 use Rattle.grammar.specs.Nodes.{count, words, wordsPerNode}
-use Rattle.grammar.specs.Fault.{Rules, current, longestText, BeforeEleven, FaultUnder, PastUnder}
+use Rattle.grammar.specs.Fault.{Rules, current, longestText, BeforeEleven, FaultUnder, Fault, PastUnder, Past}
 use Rattle.grammar.specs.Decoding.{decodeTable, Ordered, Together}
 use Rattle.grammar.specs.NodePrecedence.{NodePrecedence}
 use Rattle.grammar.specs.Answer.{over}
-use Rattle.grammar.specs.Claim.{nodeAtoms, nodeBlocks, FromLetToIn, FirstWithout, ReadingUnder, ReadingOf, canonicalBytes}
+use Rattle.grammar.specs.Claim.{nodeAtoms, nodeBlocks, FromLetToIn, FirstWithout, LostAt, ReadingUnder, ReadingOf, canonicalBytes}
 use Rattle.reader.specs.declared.Answer.{Answer}
 use Rattle.reader.specs.Answered.{refusedWith, written, Reads, nodeWritten, Canonicalizes}
 
@@ -51,6 +51,18 @@ TableFits N t = wordsPerNode * count t ≤ length N
 -- "13: tidying: tidy text over the buffer or 16,384"
 abbrev pub BufferFits : List ℕ → Tree → Type 0
 BufferFits B t = (length (canonicalBytes t) ≤ length B) × (length (canonicalBytes t) ≤ longestText)
+
+-- What a call answers that locates a text: 0 where it reads as something; a refusal other than 11 with its own place; and 11 with the place at
+-- which the first span without a tree is lost. Nothing is written.
+pub record RightPlace (text : Bytes) (a : Answer) : Type 0 where
+  pub known : (a .number ≤ 11) ⊎ (a .number ≡ 17)
+  pub faults : (n p : ℕ) → ((a .number ≡ n) × (a .offset ≡ p) × BeforeEleven n) ↔ Fault text n p
+  pub eleven :
+      (p : ℕ)
+      → ((a .number ≡ 11) × (a .offset ≡ p)) ↔ ((x : Token) × (ts : List Token) × Past text (x ∷ ts) × LostAt text (x ∷ ts) p)
+  pub success : (a .number ≡ 0) ↔ ((t : Tree) × ReadingOf text t)
+  pub placeZero : a .number ≡ 0 → a .offset ≡ 0
+  pub uncounted : a .count ≡ 0
 
 -- Demand 2: what the node table holds of the tree `t` where `c` nodes were counted.
 pub record TableHolds (text : Bytes) (N N′ : List ℕ) (c : ℕ) (t : Tree) : Type 0 where

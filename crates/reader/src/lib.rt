@@ -1,5 +1,5 @@
-// The services: any bytes in; a node table, or canonical text, or a numbered refusal out. And for a node of the table its part of the text, or
-// the characters of its name.
+// The services: any bytes in; a node table, or canonical text, or a numbered refusal out; or where a text without a tree is lost. And for a node
+// of the table its part of the text, or the characters of its name.
 use canonical_text::pieces;
 use checks::Checked;
 use nodes::build;
@@ -8,7 +8,7 @@ ghost use mathlib.Core.Path.{_≡_};
 ghost use Rattle.checks.specs.Checking.{Checkable};
 ghost use mathlib.Core.List.{List};
 ghost use Prim.Native.Nat.{ℕ};
-ghost use Rattle.reader.specs.Answered.{refusedWith, written, Reads, Canonicalizes, Serves, nodeWritten, WritesName};
+ghost use Rattle.reader.specs.Answered.{refusedWith, written, treelessPlace, Reads, Canonicalizes, Locates, Serves, nodeWritten, WritesName};
 ghost use Rattle.reader.specs.Found.{Found};
 
 pub const MAX_BYTES: usize = 16384;
@@ -18,8 +18,10 @@ pub const TINY: usize = 16;
 
 pub const SHORT: usize = 128;
 
-// Refusals 1, 12 and 13.
+// Refusals 1, 11, 12 and 13.
 pub const TEXT_TOO_LONG: u8 = 1;
+
+pub const NO_TREE: u8 = 11;
 
 pub const TABLE_TOO_SHORT: u8 = 12;
 
@@ -31,6 +33,13 @@ pub struct Answer {
     pub number: u8,
     pub offset: usize,
     pub count: usize,
+}
+
+// What is asked for: the node table, the canonical text, or the place at which a text without a tree is lost.
+pub enum Service {
+    Nodes,
+    Text,
+    Place,
 }
 
 // A refusal by its number and place.
@@ -52,6 +61,17 @@ fn success(count: usize) -> Answer
         number: 0,
         offset: 0,
         count,
+    }
+}
+
+// Refusal 11: the place of the span without a tree, or that at which it is lost.
+fn no_tree(service: Service, span: usize, lost: usize) -> Answer
+    ensures { λ r. ⌜ r ≡ refusedWith 11 (treelessPlace service span lost) ⌝ }
+{
+    match service {
+        Service::Nodes => refused(NO_TREE, span),
+        Service::Text => refused(NO_TREE, span),
+        Service::Place => refused(NO_TREE, lost),
     }
 }
 
@@ -99,38 +119,38 @@ fn write_text(
     success(n)
 }
 
-// Checks 2 to 11 and 17, and then one of the two: canonical text into the buffer, or nodes into the table.
+// Checks 2 to 11 and 17, and then what is asked for: nodes into the table, canonical text into the buffer, or neither.
 fn serve_in(
     text: &[u8],
     tokens: &mut [u16],
     roles: &mut [u16],
     roots: &mut [u16],
-    canonical: bool,
+    service: Service,
     nodes: &mut [u32],
     buffer: &mut [u8],
 ) -> Answer
     requires { ⌜ Checkable (now text) (now tokens) (now roles) (now roots) ⌝ }
-    ensures { λ r. ⌜ Serves canonical (now (text .entry)) (now (nodes .entry)) (now (nodes .exit)) (now (buffer .entry)) (now (buffer .exit)) r ⌝ }
+    ensures { λ r. ⌜ Serves service (now (text .entry)) (now (nodes .entry)) (now (nodes .exit)) (now (buffer .entry)) (now (buffer .exit)) r ⌝ }
 {
     match checks::check(text, tokens, roles, roots) {
         Checked::Refused { number, offset } => refused(number, offset),
+        Checked::NoTree { span, lost } => no_tree(service, span, lost),
         Checked::Blank => success(0),
         Checked::Passed {
             tokens: count,
             nodes: k,
             root,
-        } => {
-            if canonical {
-                return write_text(text, tokens, roles, roots, count, buffer);
-            }
-            write_nodes(tokens, roles, roots, count, k, root, nodes)
-        }
+        } => match service {
+            Service::Nodes => write_nodes(tokens, roles, roots, count, k, root, nodes),
+            Service::Text => write_text(text, tokens, roles, roots, count, buffer),
+            Service::Place => success(0),
+        },
     }
 }
 
 // Check 1, and rows for the tokens: no text has more tokens than bytes.
-fn serve(text: &[u8], canonical: bool, nodes: &mut [u32], buffer: &mut [u8]) -> Answer
-    ensures { λ r. ⌜ Serves canonical (now (text .entry)) (now (nodes .entry)) (now (nodes .exit)) (now (buffer .entry)) (now (buffer .exit)) r ⌝ }
+fn serve(text: &[u8], service: Service, nodes: &mut [u32], buffer: &mut [u8]) -> Answer
+    ensures { λ r. ⌜ Serves service (now (text .entry)) (now (nodes .entry)) (now (nodes .exit)) (now (buffer .entry)) (now (buffer .exit)) r ⌝ }
 {
     if MAX_BYTES < text.len() {
         return refused(TEXT_TOO_LONG, MAX_BYTES);
@@ -144,7 +164,7 @@ fn serve(text: &[u8], canonical: bool, nodes: &mut [u32], buffer: &mut [u8]) -> 
             &mut tokens,
             &mut roles,
             &mut roots,
-            canonical,
+            service,
             nodes,
             buffer,
         );
@@ -158,7 +178,7 @@ fn serve(text: &[u8], canonical: bool, nodes: &mut [u32], buffer: &mut [u8]) -> 
             &mut tokens,
             &mut roles,
             &mut roots,
-            canonical,
+            service,
             nodes,
             buffer,
         );
@@ -171,7 +191,7 @@ fn serve(text: &[u8], canonical: bool, nodes: &mut [u32], buffer: &mut [u8]) -> 
         &mut tokens,
         &mut roles,
         &mut roots,
-        canonical,
+        service,
         nodes,
         buffer,
     )
@@ -182,7 +202,7 @@ pub fn read(text: &[u8], nodes: &mut [u32]) -> Answer
     ensures { λ r. ⌜ Reads (now (text .entry)) (now (nodes .entry)) (now (nodes .exit)) r ⌝ }
 {
     let mut buffer = [0u8; 1];
-    serve(text, false, nodes, &mut buffer)
+    serve(text, Service::Nodes, nodes, &mut buffer)
 }
 
 // Writes the canonical text of a text over the front of a lent buffer. A refusal changes no byte.
@@ -190,7 +210,17 @@ pub fn canonicalize(text: &[u8], buffer: &mut [u8]) -> Answer
     ensures { λ r. ⌜ Canonicalizes (now (text .entry)) (now (buffer .entry)) (now (buffer .exit)) r ⌝ }
 {
     let mut nodes = [0u32; 1];
-    serve(text, true, &mut nodes, buffer)
+    serve(text, Service::Text, &mut nodes, buffer)
+}
+
+// Where a text is refused: 0 for a text that is read, else the number and place of the refusal; of 11 the place at which the first span without
+// a tree is lost. Nothing is written.
+pub fn locate(text: &[u8]) -> Answer
+    ensures { λ r. ⌜ Locates (now (text .entry)) r ⌝ }
+{
+    let mut nodes = [0u32; 1];
+    let mut buffer = [0u8; 1];
+    serve(text, Service::Place, &mut nodes, &mut buffer)
 }
 
 // The part of the text that node number `i` gives: a name as written, without the outer quotes; a number's digits; an operator. Nothing if

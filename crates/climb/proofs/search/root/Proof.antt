@@ -3,7 +3,6 @@ use mathlib.Core.Path.{_≡_, refl, sym, _∙_}
 use mathlib.Core.Logic.{_⊎_, inl, inr, ⊎-elim}
 use mathlib.Core.Bool.{true}
 use mathlib.Core.List.{List}
-use mathlib.Core.Option.{none}
 use Prim.Native.Nat.{ℕ, _-_, _≤_, _<_}
 use native.Mathlib.Numerals.{add-one}
 use native.Mathlib.Omega.{arith}
@@ -12,38 +11,34 @@ use borrow.Author.Tests.{not-true, not-false}
 use Rattle.grammar.specs.Bytes.{Bytes}
 use Rattle.grammar.specs.Operator.{Table}
 use Rattle.grammar.specs.Span.{items}
-use Rattle.grammar.specs.SpanTree.{admitsBoth}
 use Rattle.rows.specs.Fields.{arrival, left, right, Within}
 use Rattle.rows.specs.Codes.{roleOf, givesWayTo}
 use Rattle.rows.specs.Tokens.{range}
-use Rattle.grammar.proofs.Logic.{below, clash}
 use Rattle.rows.proofs.Fields.{within}
-use Rattle.rows.proofs.Codes.{gives-none}
 use Rattle.climb.specs.Searched.{RootsKept, Rows, InForce, Searched}
 use Rattle.climb.specs.declared.search.Found.the-variants.{NoTree}
-use Rattle.climb.specs.Beside.{roleOfRoot}
 use Rattle.rows.specs.InUse.{roleBeside}
 use Rattle.climb.proofs.Pass.{Next, next-bound}
 use Rattle.climb.proofs.Coming.{OperandAt, operand-at}
 use Rattle.climb.proofs.Climbing.{
-  found,
   Climbing,
   Top,
   begins,
   top,
   bounds,
   top-bounds,
-  own-bound,
+  Halts,
   refuses,
-  takes,
+  untaken-here,
+  takes-operand,
   next-operator,
   next-last,
   is-role,
-  is-own-role,
-  is-inner,
-  not-closed,
   closes,
   Stops,
+  are-roles,
+  inner-is,
+  refused-here,
   waits,
   left-over,
   nothing-read,
@@ -64,27 +59,27 @@ use Rattle.climb.proofs.Kept.{
 use Rattle.climb.proofs.search.root.Statement.{statement}
 use Rattle.climb.proofs.search.root.Tie as tie
 
-abbrev States : List ℕ → List ℕ → ℕ → ℕ → List ℕ → ℕ → ℕ → ℕ → ℕ → Type 0
-States K R from to O h d q i = (text : Bytes) (T : Table) → InForce text T K R from to → Climbing text T K R from to O h d q i
+abbrev States : List ℕ → List ℕ → ℕ → ℕ → List ℕ → ℕ → ℕ → ℕ → ℕ → ℕ → Type 0
+States K R from to O h d q k i = (text : Bytes) (T : Table) → InForce text T K R from to → Climbing text T K R from to O h d q k i
 
 climbing-as :
-    {text : Bytes} {T : Table} {K R : List ℕ} {from to : ℕ} {O : List ℕ} {h h′ d q q′ i : ℕ} → h′ ≡ h → q′ ≡ q
-    → Climbing text T K R from to O h d q i → Climbing text T K R from to O h′ d q′ i
+    {text : Bytes} {T : Table} {K R : List ℕ} {from to : ℕ} {O : List ℕ} {h h′ d q q′ k i : ℕ} → h′ ≡ h → q′ ≡ q
+    → Climbing text T K R from to O h d q k i → Climbing text T K R from to O h′ d q′ k i
 climbing-as e f x = rw (e, f) x
 
 abbrev Inv-loop : tie.InvT-loop
-Inv-loop tokens roles from to roots₀ waiting₀ operand₀ inner₀ i arrival roots waiting operand inner =
-    States tokens roles from to roots waiting operand inner i × RootsKept roots₀ from to roots
+Inv-loop tokens roles from to roots₀ waiting₀ operand₀ taking i arrival inner₀ roots waiting operand inner =
+    States tokens roles from to roots waiting operand inner taking i × RootsKept roots₀ from to roots
 
 abbrev μ-loop : tie.MeasureT-loop
-μ-loop tokens roles from to roots₀ waiting₀ operand₀ inner₀ i arrival roots waiting operand inner = waiting
+μ-loop tokens roles from to roots₀ waiting₀ operand₀ taking i arrival inner₀ roots waiting operand inner = waiting
 
 abbrev Inv-span : tie.InvT-span
-Inv-span tokens roles from to roots₀ waiting₀ operand₀ inner₀ i₀ roots waiting operand inner i =
-    States tokens roles from to roots waiting operand inner i × RootsKept roots₀ from to roots
+Inv-span tokens roles from to roots₀ waiting₀ operand₀ taking₀ i₀ roots waiting operand taking i =
+    States tokens roles from to roots waiting operand 0 taking i × RootsKept roots₀ from to roots
 
 abbrev μ-span : tie.MeasureT-span
-μ-span tokens roles from to roots₀ waiting₀ operand₀ inner₀ i₀ roots waiting operand inner i = to - i
+μ-span tokens roles from to roots₀ waiting₀ operand₀ taking₀ i₀ roots waiting operand taking i = to - i
 
 abbrev AtSpan : Type 0
 AtSpan = tie.At-span Inv-loop μ-loop Inv-span μ-span
@@ -96,10 +91,10 @@ abbrev AtLoop : Type 0
 AtLoop = tie.At-loop Inv-loop μ-loop Inv-span μ-span
 
 abbrev Stopped : Type 0
-Stopped = tie.Joined4 Inv-loop μ-loop Inv-span μ-span
+Stopped = tie.Joined5 Inv-loop μ-loop Inv-span μ-span
 
 abbrev Waiting : Type 0
-Waiting = tie.Else4 Inv-loop μ-loop Inv-span μ-span
+Waiting = tie.Else5 Inv-loop μ-loop Inv-span μ-span
 
 -- The rows, and the tokens from which and to which the span goes.
 abbrev tokensOf : AtSpan → List ℕ
@@ -141,7 +136,7 @@ loop-roots-hold c j h =
 
 span-bounds : (c : AtSpan) → (first c ≤ c .span .i) × (c .span .i ≤ end c) × (end c ≤ 1024)
 span-bounds c =
-    let b = bounds _ _ _ _ _ _ _ _ _ _ _ (c .span .inv .0 (known c .0) (known c .1) (known c .2)) in
+    let b = bounds _ _ _ _ _ _ _ _ _ _ _ _ (c .span .inv .0 (known c .0) (known c .1) (known c .2)) in
     (b .0, b .1, rows-of c .tokens .0)
 
 -- What comes: a token of the span, or nothing more.
@@ -164,7 +159,7 @@ operand-there c =
     operand-at (a .span .inv .0 (known a .0) (known a .1) (known a .2) .rest) (operand-comes c .0) (operand-comes c .1)
 
 abbrev operand-left : tie.After-item-end Inv-loop μ-loop Inv-span μ-span → tie.Then2 Inv-loop μ-loop Inv-span μ-span
-operand-left c = c .before .before .before .before .before .before .before .before .before .before
+operand-left c = c .before .before .before .before .before .before .before .before .before .before .before
 
 -- The innermost operator that waits.
 module _ (c : Waiting) where
@@ -186,7 +181,7 @@ module _ (c : Waiting) where
   top-at :
       (text : Bytes) (T : Table) → Known spanOf text T
       → Top text T (tokensOf spanOf) (rolesOf spanOf) (first spanOf) (end spanOf) row read (c .before .loop .inner) (spanOf .span .i) place
-  top-at text T f = top text T _ _ _ _ _ _ _ _ _ _ (c .before .loop .inv .0 text T f) (omega arith)
+  top-at text T f = top text T _ _ _ _ _ _ _ _ _ _ _ (c .before .loop .inv .0 text T f) (omega arith)
 
   next-at : (text : Bytes) (T : Table) → Known spanOf text T → Next T (items (range text (tokensOf spanOf) (spanOf .span .i) (end spanOf))) coming
   next-at text T f =
@@ -210,18 +205,18 @@ loop-bounds : (c : AtLoop) → (c .loop .waiting ≤ 1024) × (c .loop .operand 
 loop-bounds c =
     let a = c .before .before .before in
     let k = known a in
-    let b = bounds _ _ _ _ _ _ _ _ _ _ _ (c .loop .inv .0 (k .0) (k .1) (k .2)) in
+    let b = bounds _ _ _ _ _ _ _ _ _ _ _ _ (c .loop .inv .0 (k .0) (k .1) (k .2)) in
     (omega (arith, b .2, span-bounds a), omega (arith, b .3, span-bounds a))
 
 stops-at :
     (c : Stopped)
-    → (c .if4 .left ≡ c .before .loop .operand)
+    → (c .if5 .left ≡ c .before .loop .operand)
     × Stops (rolesOf (c .before .before .before .before)) (c .before .loop .roots) (c .before .loop .waiting) (c .before .loop .operand) (c .before .before .before .if1 .arrival)
 stops-at c =
     ⊎-elim
     (λ w. (w .1, inl (w .0 .taken)))
     (λ w. (w .6, inr (c .before .loop .waiting - 1, omega (arith, w .0 .left), rw (← w .2 .ensures, ← w .3 .ensures) (sym (w .4 .ensures) ∙ not-true _ (w .5 .taken)))))
-    (c .if4 .came)
+    (c .if5 .came)
 
 -- Behind the last item none waits, or there is no tree.
 none-waits : (c : tie.Else8 Inv-loop μ-loop Inv-span μ-span) → c .before .before .before .loop .waiting ≡ 0
@@ -233,35 +228,28 @@ loop-kept : (c : AtLoop) → let a = c .before .before .before in
 loop-kept c = let a = c .before .before .before in kept-then _ (a .span .roots) _ (first a) (end a) (a .span .inv .1) (c .loop .inv .1)
 
 answers-none :
-    (K R : List ℕ) (from to : ℕ) (O O′ : List ℕ) → ((text : Bytes) (T : Table) → InForce text T K R from to → found text T K R from to ≡ none)
-    → RootsKept O from to O′ → Searched K R from to O O′ NoTree
-answers-none K R from to O O′ f k = record { answer = λ text T g. rw (f text T g) refl; kept = k }
+    (K R : List ℕ) (from to : ℕ) (O O′ : List ℕ) (i : ℕ) → ((text : Bytes) (T : Table) → InForce text T K R from to → Halts text T K R from to i)
+    → RootsKept O from to O′ → Searched K R from to O O′ (NoTree i)
+answers-none K R from to O O′ i f k =
+    record { answer = λ text T g. rw (f text T g) refl; kept = k }
 
 -- It gives way: what the search has read of it.
-abbrev gave-way : tie.After-role-of Inv-loop μ-loop Inv-span μ-span → Waiting
-gave-way c = c .before .before .before .before .before .before .before
+abbrev Gave : Type 0
+Gave = tie.Else6 Inv-loop μ-loop Inv-span μ-span
 
--- The number of its role, and of the role of its left operand's root.
+abbrev gave-way : Gave → Waiting
+gave-way c = c .before .before .before .before .before
+
+-- The number of its role.
 abbrev role-at : Waiting → ℕ
 role-at c = roleBeside (rolesOf (spanOf c)) (place c) (left (row c) (place c)) (read c)
 
-abbrev own-at : Waiting → ℕ
-own-at c = roleOfRoot (rolesOf (spanOf c)) (row c) (left (row c) (place c))
-
-module _ (c : tie.After-role-of Inv-loop μ-loop Inv-span μ-span) where
-  role-read : c .before .before .before .before .role-beside .result ≡ role-at (gave-way c)
-  role-read = rw (← c .before .before .before .before .before .left .ensures) (c .before .before .before .before .role-beside .ensures)
-
-  own-read : c .role-of .result ≡ own-at (gave-way c)
-  own-read = rw (← c .before .before .before .before .before .left .ensures) (c .role-of .ensures)
+module _ (c : Gave) where
+  role-read : c .before .before .role-beside .result ≡ role-at (gave-way c)
+  role-read = rw (← c .before .before .before .left .ensures) (c .before .before .role-beside .ensures)
 
   gives : givesWayTo (roleOf (role-at (gave-way c))) (coming (gave-way c)) ≡ true
-  gives = rw (← role-read) (sym (c .before .before .before .gives-way .ensures) ∙ not-false _ (c .before .before .if5 .left))
-
-admits-read :
-    (c : tie.After-admits Inv-loop μ-loop Inv-span μ-span)
-    → let w = gave-way (c .before) in c .admits .result ≡ admitsBoth (roleOf (role-at w)) (roleOf (own-at w)) (roleOf (w .before .loop .inner))
-admits-read c = rw (← role-read (c .before), ← own-read (c .before)) (c .admits .ensures)
+  gives = rw (← role-read) (sym (c .before .gives-way .ensures) ∙ not-false _ (c .if6 .left))
 
 span-holds : tie.Need-span-holds Inv-loop μ-loop Inv-span μ-span
 span-holds c = (λ text T f. begins text T _ _ _ _ _ f, kept-all _ _ _)
@@ -271,24 +259,24 @@ arrival-requires c κs = roles-hold (c .before) (c .before .span .i) (c .if1 .ta
 
 set-left-requires : tie.Need-set-left-requires Inv-loop μ-loop Inv-span μ-span
 set-left-requires c κs =
-    let e = c .before .before in
+    let e = c .before .before .before in
     (roots-hold (e .before .before) (e .before .before .span .i) (operand-comes e .0), omega arith)
 
 set-right-requires : tie.Need-set-right-requires Inv-loop μ-loop Inv-span μ-span
 set-right-requires c κs =
     let l = c .before .before .before in
-    let e = l .before .before .before in
+    let e = l .before .before .before .before in
     let w = roots-hold (e .before .before) (e .before .before .span .i) (operand-comes e .0) in
     ((w .0, omega (arith, w .1, l .set-left .kept .0)), omega arith)
 
 add-operand : tie.Need-add-operand Inv-loop μ-loop Inv-span μ-span
 add-operand c =
-    let a = c .before .before .before .before .before .before .before .before .before .before .before in
+    let a = c .before .before .before .before .before .before .before .before .before .before .before .before in
     omega (arith, span-bounds a)
 
 item-end-requires : tie.Need-item-end-requires Inv-loop μ-loop Inv-span μ-span
 item-end-requires c κs =
-    let e = c .before .before .before .before .before .before .before .before .before in
+    let e = c .before .before .before .before .before .before .before .before .before .before in
     let a = e .before .before in
     (tokens-hold a (a .span .i) (operand-comes e .0), λ k. tokens-hold a _ (operand-there e .closed k))
 
@@ -313,8 +301,8 @@ span-again c =
     let q = r .set-right .ensures in (
       λ text T f.
           rw (c .item-end .ensures, add-one (a .span .i))
-          (takes text T _ _ _ _ o o₂ (a .span .waiting) (a .span .operand) (a .span .inner) i
-          (a .span .inv .0 text T f) (h .0) (h .1) (l .before .before .if3 .left)
+          (takes-operand text T _ _ _ _ o o₂ (a .span .waiting) (a .span .operand) 0 (a .span .taking) i (f .bounded)
+          (a .span .inv .0 text T f) (h .0) (h .1) (l .before .before .before .if3 .left) (l .before .before .if4 .left)
           (both-left o o₁ o₂ i 0 0 p q w) (both-right o o₁ o₂ i 0 0 p q w) (λ k j y z u. both-other o o₁ o₂ i 0 0 p q w k j y (λ v. omega arith))),
       kept-then _ o o₂ (first a) (end a) (a .span .inv .1) (both-kept o o₁ o₂ i 0 0 p q w (first a) (end a) (span-bounds a .0) (h .0)),
     )
@@ -340,84 +328,92 @@ gives-way-requires c κs =
       next-bound (k .1) (k .2 .bounded) _ _ (next-at w (k .0) (k .1) (k .2)),
     )
 
-role-of-requires : tie.Need-role-of-requires Inv-loop μ-loop Inv-span μ-span
-role-of-requires c κs b h =
-    let w = c .before .before .before .before .before .before in
-    let k = known (spanOf w) in
-    let o = sym (c .before .before .before .before .left .ensures) ∙ h in
-    let p = own-bound _ _ _ _ _ _ _ _ _ _ _ b (top-at w (k .0) (k .1) (k .2)) o in
-    let l : b < end (spanOf w) = omega (arith, p .1, place-bounds w) in
-    (roles-hold (spanOf w) b l, loop-roots-hold (w .before) b l)
-
-admits-requires : tie.Need-admits-requires Inv-loop μ-loop Inv-span μ-span
-admits-requires c κs =
-    let w = gave-way c in
-    let k = known (spanOf w) in
-    let x = top-at w (k .0) (k .1) (k .2) in (
-      rw (role-read c) (is-role _ _ _ _ _ _ (k .2 .bounded) _ _ _ _ _ x),
-      rw (own-read c) (is-own-role _ _ _ _ _ _ (k .2 .bounded) _ _ _ _ _ x),
-      is-inner _ _ _ _ _ _ (k .2 .bounded) _ _ _ _ _ x,
-      below 0 _ (λ h. h) (λ h. absurd (clash (gives c) (gives-none _ _ (sym (role-read c) ∙ omega arith)))),
-    )
-
 right-requires : tie.Need-right-requires Inv-loop μ-loop Inv-span μ-span
-right-requires c κs = place-holds (gave-way (c .before .before .before))
+right-requires c κs = place-holds (gave-way (c .before))
 
 set-right-requires-2 : tie.Need-set-right-requires-2 Inv-loop μ-loop Inv-span μ-span
 set-right-requires-2 c κs =
-    let w = gave-way (c .before .before .before .before .before) in
+    let w = gave-way (c .before .before .before) in
     (place-holds w, omega (arith, loop-bounds (w .before)))
 
 loop-less : tie.Need-loop-less Inv-loop μ-loop Inv-span μ-span
 loop-less c =
     let r = c .before .before .before .before in
-    omega (arith, r .right .ensures, place-bounds (gave-way (r .before .before .before .before)) .2)
+    omega (arith, r .right .ensures, place-bounds (gave-way (r .before .before)) .2)
 
 loop-again : tie.Need-loop-again Inv-loop μ-loop Inv-span μ-span
 loop-again c =
     let r = c .before .before .before .before in
-    let a = r .before .before .before in
-    let w = gave-way (a .before) in
-    let p = c .before .before .set-right2 .ensures in
-    let admitted = sym (admits-read a) ∙ not-false _ (r .before .before .if6 .left) in (
+    let g = r .before .before in
+    let w = gave-way g in
+    let p = c .before .before .set-right2 .ensures in (
       λ text T f.
-          climbing-as (r .right .ensures) (role-read (a .before))
-          (closes text T _ _ _ _ (f .bounded) _ _ _ _ _ (top-at w text T f) _ (next-at w text T f) (gives (a .before)) admitted
+          climbing-as (r .right .ensures) (role-read g)
+          (closes text T _ _ _ _ (f .bounded) _ _ _ _ _ (top-at w text T f) _ (next-at w text T f) (gives g)
           (w .before .loop .waiting) (omega arith) _ (right-stored (row w) _ (place w) (read w) p (place-holds w))
-          (left-kept (row w) _ (place w) (read w) p (place-holds w)) (right-other (row w) _ (place w) (read w) p (place-holds w))),
+          (left-kept (row w) _ (place w) (read w) p (place-holds w)) (right-other (row w) _ (place w) (read w) p (place-holds w))
+          _ (w .before .loop .inv .0 text T f .isRole)),
       kept-then _ _ _ _ _ (w .before .loop .inv .1) (rw p (kept-store _ _ _ 1 _ _ (omega arith) (place-bounds w .0) (place-bounds w .1))),
     )
 
-sub-t41 : tie.Need-sub-t41 Inv-loop μ-loop Inv-span μ-span
-sub-t41 c = omega arith
+sub-t39 : tie.Need-sub-t39 Inv-loop μ-loop Inv-span μ-span
+sub-t39 c = omega arith
+
+-- An operator comes.
+operator-comes :
+    (c : tie.Else7 Inv-loop μ-loop Inv-span μ-span)
+    → let m = c .before .before in let a = m .before .before .before in
+    (m .before .before .if1 .arrival ≡ arrival (rolesOf a) (a .span .i))
+operator-comes c =
+    let m = c .before .before in
+    ⊎-elim (λ x. x .1) (λ x. absurd (omega (arith, x .0, c .if7 .left))) (comes-at (m .before .before))
+
+arrives-requires : tie.Need-arrives-requires Inv-loop μ-loop Inv-span μ-span
+arrives-requires c κs =
+    let m = c .before .before in
+    let a = m .before .before .before in
+    let (text, T, f) = known a in
+    let x = m .loop .inv .0 text T f in
+    let r = are-roles text T _ _ _ _ (f .bounded) _ _ _ _ _ _ x (c .if7 .left) (λ z. m .before .if2 .left (operator-comes c ∙ z)) in
+    (roles-hold a (a .span .i) (c .if7 .left), r .0, r .1, r .2, inner-is text T _ _ _ _ (f .bounded) _ _ _ _ _ _ x, x .isRole)
+
+role-beside-requires-2 : tie.Need-role-beside-requires-2 Inv-loop μ-loop Inv-span μ-span
+role-beside-requires-2 c κs =
+    let e = c .before .before in
+    let a = e .before .before .before .before .before in
+    roles-hold a (a .span .i) (e .if7 .left)
 
 set-left-requires-2 : tie.Need-set-left-requires-2 Inv-loop μ-loop Inv-span μ-span
 set-left-requires-2 c κs =
-    let j = c .before .before in
-    (loop-roots-hold (j .before) _ (c .before .if7 .left), omega (arith, stops-at j .0, loop-bounds (j .before)))
+    let e = c .before .before .before .before in
+    let j = e .before in
+    (loop-roots-hold (j .before) _ (e .if7 .left), omega (arith, stops-at j .0, loop-bounds (j .before)))
 
 set-right-requires-3 : tie.Need-set-right-requires-3 Inv-loop μ-loop Inv-span μ-span
 set-right-requires-3 c κs =
     let l = c .before .before .before in
-    let j = l .before .before .before in
-    let w = loop-roots-hold (j .before) _ (l .before .before .if7 .left) in
+    let e = l .before .before .before .before .before in
+    let j = e .before in
+    let w = loop-roots-hold (j .before) _ (e .if7 .left) in
     ((w .0, omega (arith, w .1, l .set-left2 .kept .0)), omega (arith, loop-bounds (j .before)))
 
 add-i : tie.Need-add-i Inv-loop μ-loop Inv-span μ-span
 add-i c =
-    let e = c .before .before .before .before .before .before .before .before in
+    let e = c .before .before .before .before .before .before .before .before .before .before .before in
     omega (arith, e .if7 .left, span-bounds (e .before .before .before .before .before))
 
 span-less-2 : tie.Need-span-less-2 Inv-loop μ-loop Inv-span μ-span
 span-less-2 c =
-    let e = c .before .before .before .before .before .before .before .before in
+    let e = c .before .before .before .before .before .before .before .before .before .before .before in
     omega (arith, e .if7 .left)
 
 span-again-2 : tie.Need-span-again-2 Inv-loop μ-loop Inv-span μ-span
 span-again-2 c =
     let r = c .before .before in
     let l = r .before .before .before .before in
-    let e = l .before .before in
+    let b = l .before .before in
+    let y = b .before .before in
+    let e = y .before in
     let m = e .before .before in
     let a = m .before .before .before in
     let i = a .span .i in
@@ -428,11 +424,11 @@ span-again-2 c =
     let p = l .set-left2 .ensures in
     let q = r .set-right3 .ensures in
     let s = stops-at (e .before) in
-    let v = ⊎-elim (λ x. x .1) (λ x. absurd (omega (arith, x .0, e .if7 .left))) (comes-at (m .before .before)) in (
+    let t = rw (s .0) at (sym (y .arrives .ensures) ∙ not-false _ (b .before .if10 .left)) in (
       λ text T f.
-          rw (add-one i)
-          (waits text T _ _ _ _ (f .bounded) o (m .loop .waiting) (m .loop .operand) (m .loop .inner) i (m .loop .inv .0 text T f) _ (s .1)
-          (e .if7 .left) v (m .before .if2 .left) o₂ (both-left o o₁ o₂ i _ _ p q w ∙ s .0) (both-right o o₁ o₂ i _ _ p q w)
+          rw (add-one i, b .role-beside2 .ensures, s .0)
+          (waits text T _ _ _ _ (f .bounded) o (m .loop .waiting) (m .loop .operand) (m .loop .inner) (a .span .taking) i (m .loop .inv .0 text T f) _ (s .1)
+          (e .if7 .left) (operator-comes e) (m .before .if2 .left) t o₂ (both-left o o₁ o₂ i _ _ p q w ∙ s .0) (both-right o o₁ o₂ i _ _ p q w)
           (λ k j y z u. both-other o o₁ o₂ i _ _ p q w k j y (λ v. omega arith))),
       kept-then _ o o₂ (first a) (end a) (loop-kept m) (both-kept o o₁ o₂ i _ _ p q w (first a) (end a) (span-bounds a .0) (e .if7 .left)),
     )
@@ -445,20 +441,20 @@ returns c =
     let e = c .before in
     let a = e .before .before in
     let h = operand-comes e in
-    answers-none _ _ _ _ _ _ (λ text T f. refuses text T _ _ _ _ _ _ _ _ _ (a .span .inv .0 text T f) (h .0) (h .1) (c .if3 .taken)) (a .span .inv .1)
+    answers-none _ _ _ _ _ _ _ (λ text T f. refuses text T _ _ _ _ _ _ _ _ _ _ (a .span .inv .0 text T f) (h .0) (h .1) (c .if3 .taken)) (a .span .inv .1)
 
 same-length-2 : tie.Need-same-length-2 Inv-loop μ-loop Inv-span μ-span
-same-length-2 c = loop-kept (gave-way (c .before .before) .before) .long
+same-length-2 c = c .before .before .before .before .span .inv .1 .long
 
 returns-2 : tie.Need-returns-2 Inv-loop μ-loop Inv-span μ-span
 returns-2 c =
-    let g = c .before .before in
-    let w = gave-way g in
-    answers-none _ _ _ _ _ _
+    let e = c .before .before in
+    let a = e .before .before in
+    let h = operand-comes e in
+    answers-none _ _ _ _ _ _ _
     (λ text T f.
-    not-closed text T _ _ _ _ (f .bounded) _ _ _ _ _ (top-at w text T f) _ (next-at w text T f) (gives g)
-    (sym (admits-read (c .before)) ∙ not-true _ (c .if6 .taken)))
-    (loop-kept (w .before))
+    untaken-here text T _ _ _ _ _ _ _ _ _ _ (f .bounded) (a .span .inv .0 text T f) (h .0) (h .1) (c .before .if3 .left) (c .if4 .taken))
+    (a .span .inv .1)
 
 same-length-3 : tie.Need-same-length-3 Inv-loop μ-loop Inv-span μ-span
 same-length-3 c = loop-kept (c .before .before .before) .long
@@ -469,11 +465,11 @@ returns-3 c =
     let m = j .before in
     let l = c .before .if7 .taken in
     let v = ⊎-elim (λ x. absurd (omega (arith, x .0, l))) (λ x. x .1) (comes-at (m .before .before)) in
-    answers-none _ _ _ _ _ _
+    answers-none _ _ _ _ _ _ _
     (λ text T f.
     ⊎-elim
     (λ z. absurd (c .if8 .taken z))
-    (λ z. left-over text T _ _ _ _ (f .bounded) _ _ _ _ _ (top text T _ _ _ _ _ _ _ _ _ _ (m .loop .inv .0 text T f) (z .1)) l (rw v at (z .2)))
+    (λ z. left-over text T _ _ _ _ (f .bounded) _ _ _ _ _ (top text T _ _ _ _ _ _ _ _ _ _ _ (m .loop .inv .0 text T f) (z .1)) l (rw v at (z .2)))
     (stops-at j .1))
     (loop-kept m)
 
@@ -484,9 +480,9 @@ returns-4 : tie.Need-returns-4 Inv-loop μ-loop Inv-span μ-span
 returns-4 c =
     let t = c .before .before in
     let m = t .before .before in
-    answers-none _ _ _ _ _ _
+    answers-none _ _ _ _ _ _ _
     (λ text T f.
-    nothing-read text T _ _ _ _ (f .bounded) _ _ _ _ _ (m .loop .inv .0 text T f) (t .if7 .taken) (none-waits (c .before))
+    nothing-read text T _ _ _ _ (f .bounded) _ _ _ _ _ _ (m .loop .inv .0 text T f) (t .if7 .taken) (none-waits (c .before))
     (sym (stops-at (t .before) .0) ∙ c .if9 .taken))
     (loop-kept m)
 
@@ -500,10 +496,25 @@ returns-5 c =
     record {
       answer =
           λ text T f.
-          ends text T _ _ _ _ (f .bounded) _ _ _ _ _ (m .loop .inv .0 text T f) (t .if7 .taken) (none-waits (c .before .before)) _
+          ends text T _ _ _ _ (f .bounded) _ _ _ _ _ _ (m .loop .inv .0 text T f) (t .if7 .taken) (none-waits (c .before .before)) _
           (omega (arith, stops-at (t .before) .0, c .before .if9 .left));
       kept = loop-kept m;
     }
+
+same-length-6 : tie.Need-same-length-6 Inv-loop μ-loop Inv-span μ-span
+same-length-6 c = loop-kept (c .before .before .before .before) .long
+
+returns-6 : tie.Need-returns-6 Inv-loop μ-loop Inv-span μ-span
+returns-6 c =
+    let y = c .before in
+    let e = y .before in
+    let m = e .before .before in
+    let s = stops-at (e .before) in
+    let t = rw (s .0) at (sym (y .arrives .ensures) ∙ not-true _ (c .if10 .taken)) in
+    answers-none _ _ _ _ _ _ _
+    (λ text T f.
+    refused-here text T _ _ _ _ (f .bounded) _ _ _ _ _ _ (m .loop .inv .0 text T f) _ (s .1) (e .if7 .left) (operator-comes e) (m .before .if2 .left) t)
+    (loop-kept m)
 
 pub root-spec : {M : Type 1} → statement M
 root-spec =
@@ -526,13 +537,13 @@ root-spec =
     left-requires
     role-beside-requires
     gives-way-requires
-    role-of-requires
-    admits-requires
     right-requires
     set-right-requires-2
     loop-less
     loop-again
-    sub-t41
+    sub-t39
+    arrives-requires
+    role-beside-requires-2
     set-left-requires-2
     set-right-requires-3
     add-i
@@ -547,4 +558,6 @@ root-spec =
     same-length-4
     returns-4
     same-length-5
-    returns-5)
+    returns-5
+    same-length-6
+    returns-6)

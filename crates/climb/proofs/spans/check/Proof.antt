@@ -1,7 +1,8 @@
--- The spans in the order of their openers: what is known of those searched before stays so, and what makes no node is counted.
-use mathlib.Core.Path.{_≡_, refl, sym, ap, _∙_}
+-- The whole text, then the spans in the order of their openers: what is known of those searched before stays so, and what makes no node
+-- is counted up to the next opener.
+use mathlib.Core.Path.{_≡_, refl, sym, ap, ap₂, subst, _∙_}
 use mathlib.Core.Bool.{false}
-use mathlib.Core.Logic.{⊎-elim}
+use mathlib.Core.Logic.{_⊎_, inl, inr, ⊎-elim}
 use mathlib.Core.List.{List}
 use mathlib.Core.Option.{none, some}
 use Prim.Native.Nat.{ℕ, suc, _+_, _-_, _≤_, _<_}
@@ -12,17 +13,19 @@ use borrow.Author.Needs.{needs}
 use borrow.Author.Tests.{not-true}
 use Rattle.grammar.specs.Bytes.{Bytes}
 use Rattle.grammar.specs.Operator.{Table}
-use Rattle.grammar.proofs.Logic.{clash}
-use Rattle.rows.specs.Fields.{store, kind, closer, left, Within}
+use Rattle.grammar.proofs.Logic.{clash, below}
+use Rattle.rows.specs.Fields.{store, kind, closer, Within}
 use Rattle.rows.proofs.Fields.{within}
 use Rattle.rows.proofs.PairedCases.{agrees-paired}
 use Rattle.climb.specs.declared.search.Found.{Found}
 use Rattle.climb.specs.declared.search.Found.the-variants.{Root, NoTree}
 use Rattle.climb.specs.Beside.{opensSpan}
-use Rattle.climb.specs.Searched.{Rows, InForce, Searched, treeless}
+use Rattle.climb.specs.Searched.{Rows, InForce, Searched, Checks, treeless}
+use Rattle.climb.specs.declared.spans.Spans.the-variants.{Trees}
+use Rattle.grammar.specs.Blocks.{treeOf}
+use Rattle.rows.specs.Tokens.{range}
 use Rattle.climb.proofs.Spare.{
   Opens,
-  opens-kind,
   spareTo,
   spare-opens,
   spare-let,
@@ -64,499 +67,610 @@ record State (K R : List ℕ) (n whole : ℕ) (O : List ℕ) (nodes i : ℕ) : T
   counted : nodes + spareTo K 0 i ≡ n
   in-text : i ≤ n
 
+state-at : {K R : List ℕ} {n whole : ℕ} {O : List ℕ} {nodes i j : ℕ} → j ≡ i → State K R n whole O nodes i → State K R n whole O nodes j
+state-at e s = rw e s
+
+-- The span from `from` to `to` comes next: the whole text, or the span behind an opener.
+record Whole (n nodes from to : ℕ) : Type 0 where
+  first : from ≡ 0
+  all : to ≡ n
+  uncounted : nodes ≡ n
+
+record Behind (K R : List ℕ) (n whole : ℕ) (O : List ℕ) (nodes from to : ℕ) : Type 0 where
+  opener : ℕ
+  begins : from ≡ suc opener
+  ends : to ≡ closer K opener
+  opens : Opens K opener
+  inside : opener < n
+  state : State K R n whole O nodes opener
+
+abbrev Inv-loop : tie.InvT-loop
+Inv-loop tokens roles count nested roots whole nodes₀ from to i₀ nodes i = State tokens roles count whole roots nodes i × (from ≤ i)
+
+abbrev μ-loop : tie.MeasureT-loop
+μ-loop tokens roles count nested roots whole nodes₀ from to i₀ nodes i = count - i
+
 abbrev Inv-spans : tie.InvT-spans
-Inv-spans tokens roles count nested roots₀ whole nodes₀ i₀ roots nodes i =
-    State tokens roles count whole roots nodes i × (length roots ≡ length roots₀)
+Inv-spans tokens roles count nested roots₀ whole₀ nodes₀ from₀ to₀ roots whole nodes from to =
+    (Whole count nodes from to ⊎ Behind tokens roles count whole roots nodes from to) × (length roots ≡ length roots₀)
 
 abbrev μ-spans : tie.MeasureT-spans
-μ-spans tokens roles count nested roots₀ whole nodes₀ i₀ roots nodes i = count - i
-
-abbrev AfterRoot : Type 0
-AfterRoot = tie.After-root Inv-spans μ-spans
+μ-spans tokens roles count nested roots₀ whole₀ nodes₀ from₀ to₀ roots whole nodes from to = count - from
 
 abbrev AtSpans : Type 0
-AtSpans = tie.At-spans Inv-spans μ-spans
+AtSpans = tie.At-spans Inv-loop μ-loop Inv-spans μ-spans
+
+abbrev AfterRoot : Type 0
+AfterRoot = tie.After-root Inv-loop μ-loop Inv-spans μ-spans
+
+abbrev AtRoot : Type 0
+AtRoot = tie.After-known-told Inv-loop μ-loop Inv-spans μ-spans
+
+abbrev AtStore : Type 0
+AtStore = tie.After-set-left-arg Inv-loop μ-loop Inv-spans μ-spans
+
+abbrev Noted : Type 0
+Noted = tie.Joined1 Inv-loop μ-loop Inv-spans μ-spans
+
+abbrev AtLoop : Type 0
+AtLoop = tie.At-loop Inv-loop μ-loop Inv-spans μ-spans
 
 -- The rows, and how many tokens there are.
-abbrev tokensOf : AfterRoot → List ℕ
-tokensOf c = c .before .before .before .before .before .args .tokens .now
+abbrev tokensOf : AtSpans → List ℕ
+tokensOf a = a .before .before .before .before .args .tokens .now
 
-abbrev rolesOf : AfterRoot → List ℕ
-rolesOf c = c .before .before .before .before .before .args .roles .now
+abbrev rolesOf : AtSpans → List ℕ
+rolesOf a = a .before .before .before .before .args .roles .now
 
-abbrev size : AfterRoot → ℕ
-size c = c .before .before .before .before .before .args .count
+abbrev size : AtSpans → ℕ
+size a = a .before .before .before .before .args .count
 
-abbrev searched : AtSpans → AfterRoot
-searched c = c .before .before .before .before .before .before .before
+rows-of : (a : AtSpans) → Rows (tokensOf a) (rolesOf a) (a .before .before .before .before .args .roots .now) (size a)
+rows-of a = a .before .before .before .before .pre .0
 
--- The root of the whole text.
-abbrev whole-root : AtSpans → ℕ
-whole-root c = c .before .before .before .at .given .0 .0
+known : (a : AtSpans) → (text : Bytes) × (T : Table) × InForce text T (tokensOf a) (rolesOf a) 0 (size a)
+known a = a .before .before .before .before .pre .2
 
-rows-of : (c : AfterRoot) → Rows (tokensOf c) (rolesOf c) (c .before .before .before .before .before .args .roots .now) (size c)
-rows-of c = c .before .before .before .before .before .pre .0
+parts-of : (a : AtSpans) → Parts (known a .0) (tokensOf a) (rolesOf a) (known a .1) 0 (size a)
+parts-of a = let k = known a in parts (k .0) (tokensOf a) (rolesOf a) (k .2 .bounded) (k .2 .agrees)
 
-known : (c : AfterRoot) → (text : Bytes) × (T : Table) × InForce text T (tokensOf c) (rolesOf c) 0 (size c)
-known c = c .before .before .before .before .before .pre .2
-
-parts-of : (c : AfterRoot) → Parts (known c .0) (tokensOf c) (rolesOf c) (known c .1) 0 (size c)
-parts-of c = let k = known c in parts (k .0) (tokensOf c) (rolesOf c) (k .2 .bounded) (k .2 .agrees)
-
-tokens-hold : (c : AfterRoot) (j : ℕ) → j < size c → Within 4 (tokensOf c) j
-tokens-hold c j h = within 4 (size c) (tokensOf c) j (rows-of c .tokens) h
+tokens-hold : (a : AtSpans) (j : ℕ) → j < size a → Within 4 (tokensOf a) j
+tokens-hold a j h = within 4 (size a) (tokensOf a) j (rows-of a .tokens) h
 
 -- The tokens counted so far are no more than there are.
-spare-room : (c : AfterRoot) (m : ℕ) → m ≤ size c → spareTo (tokensOf c) 0 m ≤ size c
-spare-room c m h = omega (arith, parts-spare (parts-of c), spare-cut (tokensOf c) 0 m (size c) (omega arith) h)
+spare-room : (a : AtSpans) (m : ℕ) → m ≤ size a → spareTo (tokensOf a) 0 m ≤ size a
+spare-room a m h = omega (arith, parts-spare (parts-of a), spare-cut (tokensOf a) 0 m (size a) (omega arith) h)
 
-roots-long : (c : AtSpans) → length (c .spans .roots) ≡ length (searched c .before .before .before .before .before .args .roots .now)
-roots-long c = c .spans .inv .1 ∙ searched c .root .ensures .kept .long
+-- The span that comes next.
+abbrev BehindAt : AtSpans → Type 0
+BehindAt a =
+    Behind (tokensOf a) (rolesOf a) (size a) (a .spans .whole) (a .spans .roots) (a .spans .nodes) (a .spans .from) (a .spans .to)
 
--- Where the loop stands at an opener.
-abbrev AtOpener : Type 0
-AtOpener = tie.Then3 Inv-spans μ-spans
+abbrev WholeAt : AtSpans → Type 0
+WholeAt a = Whole (size a) (a .spans .nodes) (a .spans .from) (a .spans .to)
 
-abbrev spansOf : AtOpener → AtSpans
-spansOf c = c .before .before .before .before
+span-behind : (a : AtSpans) (b : BehindAt a) → SpanAt (known a .0) (tokensOf a) (rolesOf a) (b .opener) (size a)
+span-behind a b = span-at (parts-of a) (b .opener) (omega arith) (b .inside) (b .opens)
 
-opens-at : (c : AtOpener) → Opens (tokensOf (searched (spansOf c))) (spansOf c .spans .i)
-opens-at c = ap opensSpan (sym (c .before .before .kind .ensures)) ∙ (sym (c .before .opens-span .ensures) ∙ c .if3 .taken)
+whole-at : (a : AtSpans) → a .spans .from ≡ 0 → WholeAt a
+whole-at a e = ⊎-elim (λ w. w) (λ b. absurd (omega (arith, b .begins))) (a .spans .inv .0)
 
-opened-at : (c : AtOpener) → let r = searched (spansOf c) in SpanAt (known r .0) (tokensOf r) (rolesOf r) (spansOf c .spans .i) (size r)
-opened-at c = span-at (parts-of (searched (spansOf c))) (spansOf c .spans .i) (omega arith) (c .before .before .before .if2 .left) (opens-at c)
+behind-at : (a : AtSpans) → (a .spans .from ≡ 0 → ⊥) → BehindAt a
+behind-at a n = ⊎-elim (λ w. absurd (n (w .first))) (λ b. b) (a .spans .inv .0)
 
--- Its span has been searched.
+-- It lies in the text, and its operators are in force.
+record Next (a : AtSpans) : Type 0 where
+  within-text : a .spans .to ≤ size a
+  begun : a .spans .from ≤ size a
+  force : (text : Bytes) × (T : Table) × InForce text T (tokensOf a) (rolesOf a) (a .spans .from) (a .spans .to)
+
+in-force-at :
+    {text : Bytes} {T : Table} {K R : List ℕ} {from to from′ to′ : ℕ} → from ≡ from′ → to ≡ to′ → InForce text T K R from′ to′
+    → InForce text T K R from to
+in-force-at e f h = rw (e, f) h
+
+next : (a : AtSpans) → Next a
+next a =
+    ⊎-elim
+    (λ w. record { within-text = omega (arith, w .all); begun = omega (arith, w .first); force = (known a .0, known a .1, in-force-at (w .first) (w .all) (known a .2)) })
+    (λ b.
+    let x = span-behind a b in
+    record {
+      within-text = omega (arith, b .ends, x .within);
+      begun = omega (arith, b .begins, b .inside);
+      force = (known a .0, x .table, in-force-at (b .begins) (b .ends) (x .known));
+    })
+    (a .spans .inv .0)
+
 searched-at :
     {K R O P : List ℕ} {r r′ : Found} {from to from′ to′ : ℕ} → from ≡ from′ → to ≡ to′ → r ≡ r′ → Searched K R from to O P r
     → Searched K R from′ to′ O P r′
 searched-at e f d s = rw (← e, ← f, ← d) s
 
-module _ (c : tie.After-root2 Inv-spans μ-spans) where
-  abbrev opener : AtOpener
-  opener = c .before .before .before
-
+-- It has been searched.
+module _ (c : AfterRoot) where
   abbrev here : AtSpans
-  here = spansOf opener
-
-  abbrev K : List ℕ
-  K = tokensOf (searched here)
-
-  abbrev R : List ℕ
-  R = rolesOf (searched here)
-
-  abbrev i : ℕ
-  i = here .spans .i
+  here = c .before .before
 
   abbrev row : List ℕ
-  row = c .root2 .last .1 .1 .1 .1 .0
+  row = c .root .last .1 .1 .1 .1 .0
 
-  inner-searched : Searched K R (suc i) (closer K i) (here .spans .roots) row (c .root2 .result)
-  inner-searched = searched-at (add-one i) (c .before .before .closer .ensures) refl (c .root2 .ensures)
+  searched : Searched (tokensOf here) (rolesOf here) (here .spans .from) (here .spans .to) (here .spans .roots) row (c .root .result)
+  searched = c .root .ensures
 
-  inner-holds : Within 2 row i
-  inner-holds =
-      let w = within 2 (size (searched here)) (here .spans .roots) i
-      (rows-of (searched here) .roots .0, omega (arith, rows-of (searched here) .roots .1, roots-long here)) (opener .before .before .before .if2 .left) in
-      (w .0, omega (arith, w .1, inner-searched .kept .long))
+  row-long : length row ≡ length (here .before .before .before .before .args .roots .now)
+  row-long = searched .kept .long ∙ here .spans .inv .1
 
-inner-found :
-    (c : tie.After-at2 Inv-spans μ-spans)
-    → let r = c .before .before .before .before in SpanFound (K r) (R r) (row r) (suc (i r)) (closer (K r) (i r)) (suc (c .at2 .given .0 .0))
-inner-found c =
-    let r = c .before .before .before .before in
-    let e : r .root2 .result ≡ Root (c .at2 .given .0 .0) = c .at2 .given .1 in
-    searched-found (K r) (R r) _ (row r) (suc (i r)) (closer (K r) (i r)) _ (searched-at refl refl e (inner-searched r))
+  row-holds : (j : ℕ) → j < size here → Within 2 row j
+  row-holds j h =
+      within 2 (size here) row j (rows-of here .roots .0, omega (arith, rows-of here .roots .1, row-long)) h
 
-mark-small : (c : tie.After-at2 Inv-spans μ-spans) → c .at2 .given .0 .0 < 1024
-mark-small c =
-    let r = c .before .before .before .before in
-    let x = opened-at (opener r) in
-    let f = inner-found c _ (x .table) (x .known) in
-    omega (
-      arith,
-      found-within (K r) (R r) (row r) (suc (i r)) (closer (K r) (i r)) _ _ (x .table) (x .known) f,
-      x .within,
-      rows-of (searched (here r)) .tokens .0,
-    )
+-- It has a tree.
+module _ (c : AtRoot) where
+  abbrev after : AfterRoot
+  after = c .before .before .before .before .before
 
--- A node is left for its closer.
-node-left : (c : AtOpener) → 1 ≤ spansOf c .spans .nodes
-node-left c =
-    let a = spansOf c in
-    let r = searched a in
-    let l = c .before .before .before .if2 .left in
-    omega (
-      arith,
-      a .spans .inv .0 .counted,
-      spare-room r (suc (a .spans .i)) l,
-      spare-last (tokensOf r) 0 (a .spans .i) (omega arith),
-      spare-opens (tokensOf r) (a .spans .i) (opens-at c),
-    )
+  abbrev at : ℕ
+  at = c .before .at .given .0 .0
 
--- Token `i` is passed but for what is counted at a `let`.
-record Passed (K R : List ℕ) (n whole long : ℕ) (O : List ℕ) (nodes i : ℕ) : Type 0 where
-  before : Before K R O (suc i)
-  whole-text : SpanFound K R O 0 n (suc whole)
-  counted : (kind K i ≡ 7 → ⊥) → nodes + spareTo K 0 (suc i) ≡ n
-  let-counted : kind K i ≡ 7 → nodes + spareTo K 0 i ≡ n
-  as-long : length O ≡ long
+  is-root : after .root .result ≡ Root at
+  is-root = c .before .at .given .1
 
-abbrev PassedAt : AtSpans → List ℕ → ℕ → Type 0
-PassedAt c O nodes =
-    let r = searched c in Passed (tokensOf r) (rolesOf r) (size r) (whole-root c) (length (c .spans .roots)) O nodes (c .spans .i)
+  found : let a = here after in SpanFound (tokensOf a) (rolesOf a) (row after) (a .spans .from) (a .spans .to) (suc at)
+  found =
+      let a = here after in
+      searched-found (tokensOf a) (rolesOf a) _ (row after) (a .spans .from) (a .spans .to) at (searched-at refl refl is-root (searched after))
 
-passed-as : (c : AtSpans) (O O′ : List ℕ) (n n′ : ℕ) → O′ ≡ O → n′ ≡ n → PassedAt c O n → PassedAt c O′ n′
-passed-as c O O′ n n′ e f p = rw (e, f) p
+  root-small : at < 1024
+  root-small =
+      let a = here after in
+      let x = next a in
+      let (text, U, f) = x .force in
+      omega (
+        arith,
+        found-within (tokensOf a) (rolesOf a) (row after) (a .spans .from) (a .spans .to) (suc at) text U f (found text U f),
+        x .within-text,
+        rows-of a .tokens .0,
+      )
 
--- An opener is passed.
-opener-passed :
-    (s : tie.After-set-left Inv-spans μ-spans)
-    → let a = here (s .before .before .before .before .before .before .before) in PassedAt a (s .set-left .last .0) (a .spans .nodes - 1)
-opener-passed s =
-    let t = s .before .before .before in
-    let r = t .before .before .before .before in
-    let a = here r in
-    let o = opener r in
-    let l = opened-at o .before in
-    let op = opens-at o in
-    let m = suc (t .at2 .given .0 .0) in
-    let kept = inner-searched r .kept in
-    let stored : s .set-left .last .0 ≡ store 2 0 (row r) (i r) m =
-    s .set-left .ensures ∙ ap (λ v. store 2 0 (row r) (i r) v) (add-one (t .at2 .given .0 .0)) in
-    let inv = a .spans .inv .0 in
-    record {
-      before =
-          before-opened (K r) (R r) (a .spans .roots) (row r) _ (i r) m l kept stored (inner-holds r) (inv .before) op (inner-found t);
-      whole-text =
-          stays-round (K r) (R r) (a .spans .roots) _ 0 _ _ (inv .whole-text) (i r) (omega arith) op
-          (noted-outside (K r) (R r) (a .spans .roots) (row r) _ (i r) m l kept stored);
-      counted = λ d. omega (arith, node-left o, inv .counted, spare-last (K r) 0 (i r) (omega arith), spare-opens (K r) (i r) op);
-      let-counted = λ e. ⊎-elim (λ x. absurd (omega arith)) (λ x. absurd (omega arith)) (opens-kind (kind (K r) (i r)) op);
-      as-long = s .set-left .kept .0 ∙ kept .long;
-    }
-
--- Another token is passed.
-other-passed :
-    (c : tie.Else3 Inv-spans μ-spans) → let a = c .before .before .before .before in PassedAt a (a .spans .roots) (a .spans .nodes)
-other-passed c =
-    let a = c .before .before .before .before in
-    let k = tokensOf (searched a) in
-    let i = a .spans .i in
-    let inv = a .spans .inv .0 in
-    let none-opens : opensSpan (kind k i) ≡ false =
-    ap opensSpan (sym (c .before .before .kind .ensures)) ∙ (sym (c .before .opens-span .ensures) ∙ c .if3 .left) in
-    record {
-      before =
-          before-quiet k (rolesOf (searched a)) _ i (suc i) (inv .before)
-          (λ j x y o. let same : j ≡ i = omega arith in clash (rw same at o) none-opens);
-      whole-text = inv .whole-text;
-      counted = λ d. omega (arith, inv .counted, spare-last k 0 i (omega arith), spare-none k i none-opens d);
-      let-counted = λ e. inv .counted;
-      as-long = refl;
-    }
-
--- Where the ways meet behind an opener and another token.
-abbrev AtNext : Type 0
-AtNext = tie.Joined3 Inv-spans μ-spans
-
-abbrev nextOf : AtNext → AtSpans
-nextOf c = c .before .before .before .before
-
-passed : (c : AtNext) → PassedAt (nextOf c) (c .if3 .roots) (c .if3 .nodes)
-passed c =
-    ⊎-elim
-    (λ w.
-    let o : AtOpener = record { before = c .before; if3 = w .0 } in
-    let p : tie.After-root-arg2 Inv-spans μ-spans = record { before = record { before = o; closer = w .1 }; root-arg2 = w .2 } in
-    let q : tie.After-roots2 Inv-spans μ-spans = record { before = record { before = p; root2 = w .3 }; roots2 = w .4 } in
-    let m : tie.At-match2-keys1 Inv-spans μ-spans = record { before = record { before = q; slice-known3 = w .5 }; match2 = w .6 } in
-    let t : tie.After-known-told2 Inv-spans μ-spans = record { before = record { before = m; at2 = w .7 }; known-told2 = w .8 } in
-    let s : tie.After-set-left Inv-spans μ-spans = record { before = record { before = t; set-left-arg = w .9 }; set-left = w .10 } in
-    passed-as (nextOf c) (s .set-left .last .0) (c .if3 .roots) _ _ (w .13) (w .14) (opener-passed s))
-    (λ w. passed-as (nextOf c) _ _ _ _ (w .1) (w .2) (other-passed (record { before = c .before; if3 = w .0 })))
-    (c .if3 .came)
-
--- At a `let`.
-abbrev AtLet : Type 0
-AtLet = tie.Then4 Inv-spans μ-spans
-
-abbrev place : AtLet → AtSpans
-place c = nextOf (c .before)
-
-inside : (c : AtLet) → place c .spans .i < size (searched (place c))
-inside c = c .before .before .before .before .if2 .left
-
-is-let : (c : AtLet) → kind (tokensOf (searched (place c))) (place c .spans .i) ≡ 7
-is-let c = sym (c .before .before .before .kind .ensures) ∙ c .if4 .taken
-
-let-here : (c : AtLet) → LetAt (tokensOf (searched (place c))) (place c .spans .i) (size (searched (place c)))
-let-here c = let-at (agrees-paired (known (searched (place c)) .2 .agrees)) (place c .spans .i) (omega arith) (inside c) (is-let c)
-
--- The tokens up to its `in` are counted.
-let-spared :
-    (c : AtLet) → let k = tokensOf (searched (place c)) in let i = place c .spans .i in
-    spareTo k 0 (closer k i) ≡ spareTo k 0 i + (closer k i - i)
-let-spared c =
-    let k = tokensOf (searched (place c)) in
-    let i = place c .spans .i in
-    let x = let-here c in
-    omega (
-      arith,
-      spare-cut k 0 i (closer k i) (omega arith) (omega (arith, x .before)),
-      spare-next k i (closer k i) (x .before),
-      spare-let k i (is-let c),
-      spare-nothing k (suc i) (closer k i) (λ j a b. spare-quiet k j (x .quiet j a b)),
-    )
-
-let-counted : (c : AtLet) → let k = tokensOf (searched (place c)) in let i = place c .spans .i in closer k i - i ≤ c .before .if3 .nodes
-let-counted c =
-    let r = searched (place c) in
-    omega (
-      arith,
-      let-spared c,
-      passed (c .before) .let-counted (is-let c),
-      spare-room r (closer (tokensOf r) (place c .spans .i)) (omega (arith, let-here c .within)),
-    )
-
-root-requires : tie.Need-root-requires Inv-spans μ-spans
-root-requires c κs = (c .before .before .before .before .pre .0, c .before .before .before .before .pre .2)
-
-enum-known-at : tie.Need-enum-known-at Inv-spans μ-spans
-enum-known-at c = c .match .keys1
-
-enum-told : tie.Need-enum-told Inv-spans μ-spans
-enum-told c = c .match .keys2
-
-same-length : tie.Need-same-length Inv-spans μ-spans
-same-length c = c .before .before .before .before .root .ensures .kept .long
-
-returns : tie.Need-returns Inv-spans μ-spans
-unfolding treeless
-returns c =
-    let r = c .before .before .before .before in
-    let e : r .root .result ≡ NoTree = c .enum-told .given .1 in
-    let s = rw e at (r .root .ensures) in
-    record {
-      answer =
-          λ text T f.
-          refused-answer text (tokensOf r) (rolesOf r) T (size r) _ none
-          (whole-refused text (tokensOf r) (rolesOf r) T (size r) (searched-none (tokensOf r) (rolesOf r) _ _ 0 (size r) s text T f));
-      long = r .root .ensures .kept .long;
-    }
-
-same-length-2 : tie.Need-same-length-2 Inv-spans μ-spans
-same-length-2 c = c .before .before .before .before .before .before .root .ensures .kept .long
-
-returns-2 : tie.Need-returns-2 Inv-spans μ-spans
-returns-2 c =
-    let r = c .before .before .before .before .before .before in
-    let k = tokensOf r in
-    let at = c .before .before .at .given .0 .0 in
-    let e : r .root .result ≡ Root at = c .before .before .at .given .1 in
-    let s = searched-found k (rolesOf r) _ _ 0 (size r) at (rw e at (r .root .ensures)) in
-    let low = r .before .before .before .before .before .pre .1 (not-true _ (c .if1 .taken)) in
-    let none-spared = spare-nothing k 0 (size r) (λ j a b. spare-atom k j (low j b)) in
-    record {
-      answer =
-          λ text T f.
-          text-answer text k (rolesOf r) _ T (size r) (size r) at
-          (text-hung text k (rolesOf r) _ T (size r) (suc at) f (s text T f) (λ j b o. absurd (atom-opens-none k j (low j b) o)))
-          (omega arith);
-      long = r .root .ensures .kept .long;
-    }
-
-spans-holds : tie.Need-spans-holds Inv-spans μ-spans
-spans-holds c =
-    let r = c .before .before .before .before .before .before in
-    let at = c .before .before .at .given .0 .0 in
-    let e : r .root .result ≡ Root at = c .before .before .at .given .1 in (
-      record {
-        before = before-none (tokensOf r) (rolesOf r) _;
-        whole-text = searched-found (tokensOf r) (rolesOf r) _ _ 0 (size r) at (rw e at (r .root .ensures));
-        counted = omega (arith, spare-done (tokensOf r) 0);
+  -- That of the whole text.
+  whole-noted : let a = here after in a .spans .from ≡ 0 → State (tokensOf a) (rolesOf a) (size a) at (row after) (a .spans .nodes) (a .spans .from)
+  whole-noted e =
+      let a = here after in
+      let w = whole-at a e in
+      let s = searched-at (w .first) (w .all) is-root (searched after) in
+      state-at e
+      (record {
+        before = before-none (tokensOf a) (rolesOf a) _;
+        whole-text = searched-found (tokensOf a) (rolesOf a) _ (row after) 0 (size a) at s;
+        counted = omega (arith, w .uncounted, spare-done (tokensOf a) 0);
         in-text = omega arith;
-      },
-      refl,
-    )
+      })
 
-kind-requires : tie.Need-kind-requires Inv-spans μ-spans
-kind-requires c κs = tokens-hold (searched (c .before)) (c .before .spans .i) (c .if2 .left)
+-- That of the span behind an opener, at which it is stored.
+module _ (c : AtStore) where
+  abbrev atRoot : AtRoot
+  atRoot = c .before .before
 
-opens-span-requires : tie.Need-opens-span-requires Inv-spans μ-spans
-opens-span-requires c κs = search needs
+  abbrev spanAt : AtSpans
+  spanAt = here (after atRoot)
 
-closer-requires : tie.Need-closer-requires Inv-spans μ-spans
-closer-requires c κs = tokens-hold (searched (spansOf c)) (spansOf c .spans .i) (c .before .before .before .if2 .left)
+  opened : BehindAt spanAt
+  opened = behind-at spanAt (c .before .if1 .left)
 
-add-root : tie.Need-add-root Inv-spans μ-spans
-add-root c = omega (arith, c .before .before .before .before .if2 .left, rows-of (searched (spansOf (c .before))) .tokens)
+  -- A node is left for its closer.
+  node-left : 1 ≤ spanAt .spans .nodes
+  node-left =
+      let b = opened in
+      omega (
+        arith,
+        b .state .counted,
+        spare-room spanAt (suc (b .opener)) (b .inside),
+        spare-last (tokensOf spanAt) 0 (b .opener) (omega arith),
+        spare-opens (tokensOf spanAt) (b .opener) (b .opens),
+      )
 
-root-requires-2 : tie.Need-root-requires-2 Inv-spans μ-spans
-root-requires-2 c κs =
-    let o = c .before .before in
-    let a = spansOf o in
-    let r = searched a in
-    let x = opened-at o in
-    let h = rows-of r in
-    let e = c .before .closer .ensures in
-    let l : c .before .closer .result ≤ size r = omega (arith, x .within, e) in (
+  opener-noted :
+      (O : List ℕ) → O ≡ store 2 0 (row (after atRoot)) (opened .opener) (suc (at atRoot))
+      → State (tokensOf spanAt) (rolesOf spanAt) (size spanAt) (spanAt .spans .whole) O (spanAt .spans .nodes - 1) (spanAt .spans .from)
+  opener-noted O stored =
+      let b = opened in
+      let K = tokensOf spanAt in
+      let R = rolesOf spanAt in
+      let x = span-behind spanAt b in
+      let s = searched-at (b .begins) (b .ends) (is-root atRoot) (searched (after atRoot)) in
+      let f = searched-found K R _ (row (after atRoot)) (suc (b .opener)) (closer K (b .opener)) (at atRoot) s in
+      state-at (b .begins)
+      (record {
+        before =
+            before-opened K R (spanAt .spans .roots) (row (after atRoot)) O (b .opener) (suc (at atRoot)) (x .before) (s .kept) stored
+            (row-holds (after atRoot) (b .opener) (b .inside)) (b .state .before) (b .opens) f;
+        whole-text =
+            stays-round K R (spanAt .spans .roots) O 0 _ _ (b .state .whole-text) (b .opener) (omega arith) (b .opens)
+            (noted-outside K R (spanAt .spans .roots) (row (after atRoot)) O (b .opener) (suc (at atRoot)) (x .before) (s .kept) stored);
+        counted =
+            omega (arith, node-left, b .state .counted, spare-last K 0 (b .opener) (omega arith), spare-opens K (b .opener) (b .opens));
+        in-text = b .inside;
+      })
+
+-- Where the two ways meet.
+abbrev notedAt : Noted → AtSpans
+notedAt c = here (after (c .before))
+
+state-as :
+    (K R : List ℕ) (n i : ℕ) {whole whole′ nodes nodes′ : ℕ} {O O′ : List ℕ} → O′ ≡ O → whole′ ≡ whole → nodes′ ≡ nodes
+    → State K R n whole O nodes i → State K R n whole′ O′ nodes′ i
+state-as K R n i e f g s = rw (e, f, g) s
+
+noted :
+    (c : Noted)
+    → let a = notedAt c in
+    State (tokensOf a) (rolesOf a) (size a) (c .if1 .whole) (c .if1 .roots) (c .if1 .nodes) (a .spans .from)
+    × (length (c .if1 .roots) ≡ length (a .before .before .before .before .args .roots .now))
+noted c =
+    let a = notedAt c in
+    ⊎-elim
+    (λ w. (
+      state-as (tokensOf a) (rolesOf a) (size a) (a .spans .from) (w .1) (w .2) (w .3) (whole-noted (c .before) (w .0 .taken)),
+      ap length (w .1) ∙ row-long (after (c .before)),
+    ))
+    (λ w.
+    let s : AtStore = record { before = record { before = c .before; if1 = w .0 }; set-left-arg = w .1 } in
+    let b = opened s in
+    let e : a .spans .from - 1 ≡ b .opener = omega (arith, b .begins) in
+    let stored = w .2 .ensures ∙ ap₂ (λ j v. store 2 0 (row (after (c .before))) j v) e (add-one (at (c .before))) in (
+      state-as (tokensOf a) (rolesOf a) (size a) (a .spans .from) (w .5) (w .6) (w .7) (opener-noted s (w .2 .last .0) stored),
+      ap length (w .5) ∙ (w .2 .kept .0 ∙ row-long (after (c .before))),
+    ))
+    (c .if1 .came)
+
+-- In the loop to the next opener.
+abbrev loopOf : AtLoop → AtSpans
+loopOf c = notedAt (c .before .before)
+
+-- At a token that opens no span.
+abbrev Other : Type 0
+Other = tie.Else5 Inv-loop μ-loop Inv-spans μ-spans
+
+abbrev otherLoop : Other → AtLoop
+otherLoop c = c .before .before .before .before
+
+none-opens : (c : Other) → opensSpan (kind (tokensOf (loopOf (otherLoop c))) (otherLoop c .loop .i)) ≡ false
+none-opens c = ap opensSpan (sym (c .before .before .kind .ensures)) ∙ (sym (c .before .opens-span .ensures) ∙ c .if5 .left)
+
+in-text : (c : Other) → otherLoop c .loop .i < size (loopOf (otherLoop c))
+in-text c = c .before .before .before .if4 .left
+
+-- At a `let`: the tokens up to its `in` are counted.
+module _ (c : tie.Then6 Inv-loop μ-loop Inv-spans μ-spans) where
+  abbrev letLoop : AtLoop
+  letLoop = otherLoop (c .before)
+
+  abbrev K : List ℕ
+  K = tokensOf (loopOf letLoop)
+
+  abbrev i : ℕ
+  i = letLoop .loop .i
+
+  is-let : kind K i ≡ 7
+  is-let = sym (c .before .before .before .kind .ensures) ∙ c .if6 .taken
+
+  let-here : LetAt K i (size (loopOf letLoop))
+  let-here = let-at (agrees-paired (known (loopOf letLoop) .2 .agrees)) i (omega arith) (in-text (c .before)) is-let
+
+  let-spared : spareTo K 0 (closer K i) ≡ spareTo K 0 i + (closer K i - i)
+  let-spared =
+      let x = let-here in
+      omega (
+        arith,
+        spare-cut K 0 i (closer K i) (omega arith) (omega (arith, x .before)),
+        spare-next K i (closer K i) (x .before),
+        spare-let K i is-let,
+        spare-nothing K (suc i) (closer K i) (λ j a b. spare-quiet K j (x .quiet j a b)),
+      )
+
+  let-counted : closer K i - i ≤ letLoop .loop .nodes
+  let-counted =
+      omega (
+        arith,
+        let-spared,
+        letLoop .loop .inv .0 .counted,
+        spare-room (loopOf letLoop) (closer K i) (omega (arith, let-here .within)),
+      )
+
+-- At the next opener.
+abbrev AtOpener : Type 0
+AtOpener = tie.Then5 Inv-loop μ-loop Inv-spans μ-spans
+
+abbrev openerLoop : AtOpener → AtLoop
+openerLoop c = c .before .before .before .before
+
+opens-at : (c : AtOpener) → Opens (tokensOf (loopOf (openerLoop c))) (openerLoop c .loop .i)
+opens-at c = ap opensSpan (sym (c .before .before .kind .ensures)) ∙ (sym (c .before .opens-span .ensures) ∙ c .if5 .taken)
+
+opener-inside : (c : AtOpener) → openerLoop c .loop .i < size (loopOf (openerLoop c))
+opener-inside c = c .before .before .before .if4 .left
+
+-- The span has no tree.
+abbrev AtNone : Type 0
+AtNone = tie.After-known-told2 Inv-loop μ-loop Inv-spans μ-spans
+
+module _ (c : AtNone) where
+  abbrev afterNone : AfterRoot
+  afterNone = c .before .before .before .before .before
+
+  abbrev lost : ℕ
+  lost = c .before .at2 .given .0 .0
+
+  none-searched :
+      let a = here afterNone in
+      Searched (tokensOf a) (rolesOf a) (a .spans .from) (a .spans .to) (a .spans .roots) (row afterNone) (NoTree lost)
+  none-searched = searched-at refl refl (c .before .at2 .given .1) (searched afterNone)
+
+-- All is searched.
+ended-answer :
+    (a : AtSpans) (whole nodes i : ℕ) (O : List ℕ) → State (tokensOf a) (rolesOf a) (size a) whole O nodes i → size a ≤ i
+    → (text : Bytes) (T : Table) → InForce text T (tokensOf a) (rolesOf a) 0 (size a)
+    → Checks text T (tokensOf a) (size a) O (treeOf T (range text (tokensOf a) 0 (size a))) (Trees nodes whole)
+ended-answer a whole nodes i O s l text T f =
+    let all : i ≡ size a = omega (arith, s .in-text) in
+    text-answer text (tokensOf a) (rolesOf a) O T (size a) nodes whole
+    (text-hung text (tokensOf a) (rolesOf a) O T (size a) _ f (s .whole-text text T f) (rw all at (s .before)))
+    (rw all at (s .counted))
+
+spans-holds : tie.Need-spans-holds Inv-loop μ-loop Inv-spans μ-spans
+spans-holds c = (inl (record { first = refl; all = refl; uncounted = refl }), refl)
+
+root-requires : tie.Need-root-requires Inv-loop μ-loop Inv-spans μ-spans
+root-requires c κs =
+    let a = c .before in
+    let x = next a in
+    let h = rows-of a in
+    let l = x .within-text in (
       record {
         tokens = (omega (arith, h .tokens .0), omega (arith, h .tokens .1));
         roles = (omega (arith, h .roles .0), omega (arith, h .roles .1));
-        roots = (omega (arith, h .roots .0), omega (arith, h .roots .1, roots-long a));
+        roots = (omega (arith, h .roots .0), omega (arith, h .roots .1, a .spans .inv .1));
       },
-      (known r .0, x .table, rw (e, add-one (a .spans .i)) (x .known)),
+      x .force,
     )
 
-enum-known-at-2 : tie.Need-enum-known-at-2 Inv-spans μ-spans
-enum-known-at-2 c = c .match2 .keys1
+enum-known-at : tie.Need-enum-known-at Inv-loop μ-loop Inv-spans μ-spans
+enum-known-at c = c .match .keys1
 
-add-set-left : tie.Need-add-set-left Inv-spans μ-spans
-add-set-left c = omega (arith, mark-small (c .before .before))
+sub-set-left : tie.Need-sub-set-left Inv-loop μ-loop Inv-spans μ-spans
+sub-set-left c = omega (arith, opened c .begins)
 
-set-left-requires : tie.Need-set-left-requires Inv-spans μ-spans
+add-set-left : tie.Need-add-set-left Inv-loop μ-loop Inv-spans μ-spans
+add-set-left c = omega (arith, root-small (atRoot c))
+
+set-left-requires : tie.Need-set-left-requires Inv-loop μ-loop Inv-spans μ-spans
 set-left-requires c κs =
-    let a = c .before .before in
-    (inner-holds (a .before .before .before .before), omega (arith, mark-small a))
+    let b = opened c in
+    (row-holds (after (atRoot c)) (spanAt c .spans .from - 1) (omega (arith, b .begins, b .inside)), omega (arith, root-small (atRoot c)))
 
-enum-told-2 : tie.Need-enum-told-2 Inv-spans μ-spans
-enum-told-2 c = c .match2 .keys2
+sub-nodes : tie.Need-sub-nodes Inv-loop μ-loop Inv-spans μ-spans
+sub-nodes c = omega (arith, node-left (c .before .before .before))
 
-sub-nodes : tie.Need-sub-nodes Inv-spans μ-spans
-sub-nodes c =
-    let o = opener (c .before .before .before .before .before .before .before .before .before) in
-    omega (arith, node-left o)
+enum-known-at-2 : tie.Need-enum-known-at-2 Inv-loop μ-loop Inv-spans μ-spans
+enum-known-at-2 c = c .match .keys2
 
-closer-requires-2 : tie.Need-closer-requires-2 Inv-spans μ-spans
-closer-requires-2 c κs = tokens-hold (searched (place c)) (place c .spans .i) (inside c)
+sub-t27 : tie.Need-sub-t27 Inv-loop μ-loop Inv-spans μ-spans
+sub-t27 c = omega (arith, behind-at (here (afterNone (c .before))) (c .if2 .left) .begins)
 
-sub-nodes-2 : tie.Need-sub-nodes-2 Inv-spans μ-spans
-sub-nodes-2 c = omega (arith, c .closer2 .ensures, let-here (c .before) .before)
+loop-holds : tie.Need-loop-holds Inv-loop μ-loop Inv-spans μ-spans
+loop-holds c = (noted (c .before) .0, omega arith)
 
-sub-nodes-3 : tie.Need-sub-nodes-3 Inv-spans μ-spans
-sub-nodes-3 c = omega (arith, c .before .closer2 .ensures, let-counted (c .before .before))
+kind-requires : tie.Need-kind-requires Inv-loop μ-loop Inv-spans μ-spans
+kind-requires c κs = tokens-hold (loopOf (c .before)) (c .before .loop .i) (c .if4 .left)
 
-spans-less : tie.Need-spans-less Inv-spans μ-spans
-spans-less c = omega (arith, c .before .closer2 .ensures, let-here (c .before .before) .before, inside (c .before .before))
+opens-span-requires : tie.Need-opens-span-requires Inv-loop μ-loop Inv-spans μ-spans
+opens-span-requires c κs = search needs
 
-spans-again : tie.Need-spans-again Inv-spans μ-spans
-spans-again c =
+closer-requires : tie.Need-closer-requires Inv-loop μ-loop Inv-spans μ-spans
+closer-requires c κs = tokens-hold (loopOf (letLoop c)) (i c) (in-text (c .before))
+
+sub-nodes-2 : tie.Need-sub-nodes-2 Inv-loop μ-loop Inv-spans μ-spans
+sub-nodes-2 c = omega (arith, c .closer .ensures, let-here (c .before) .before)
+
+sub-nodes-3 : tie.Need-sub-nodes-3 Inv-loop μ-loop Inv-spans μ-spans
+sub-nodes-3 c = omega (arith, c .before .closer .ensures, let-counted (c .before .before))
+
+loop-less : tie.Need-loop-less Inv-loop μ-loop Inv-spans μ-spans
+loop-less c =
     let l = c .before .before in
-    let a = place l in
-    let k = tokensOf (searched a) in
-    let i = a .spans .i in
+    omega (arith, c .before .closer .ensures, let-here l .before, in-text (l .before))
+
+loop-again : tie.Need-loop-again Inv-loop μ-loop Inv-spans μ-spans
+loop-again c =
+    let l = c .before .before in
+    let s = letLoop l .loop .inv .0 in
     let x = let-here l in
-    let e = c .before .closer2 .ensures in
-    let p = passed (l .before) in (
-      rw e
-          (record {
-            before =
-                before-quiet k (rolesOf (searched a)) _ (suc i) (closer k i) (p .before)
-                (λ j u v o. absurd (quiet-opens-none k j (x .quiet j u v) o));
-            whole-text = p .whole-text;
-            counted = omega (arith, let-spared l, p .let-counted (is-let l), let-counted l);
-            in-text = omega (arith, x .within);
-          }),
-      p .as-long ∙ a .spans .inv .1,
+    let k = K l in
+    rw (c .before .closer .ensures) (
+      record {
+        before =
+            before-quiet k (rolesOf (loopOf (letLoop l))) _ (i l) (closer k (i l)) (s .before)
+            (λ j u v o.
+            ⊎-elim (λ m. absurd (quiet-opens-none k j (x .quiet j m v) o)) (λ e. clash (rw e at o) (none-opens (l .before)))
+            (later-or-same (i l) j u));
+        whole-text = s .whole-text;
+        counted = omega (arith, let-spared l, s .counted, let-counted l);
+        in-text = omega (arith, x .within);
+      },
+      omega (arith, letLoop l .loop .inv .1, x .before),
+    )
+  where
+    later-or-same : (m j : ℕ) → m ≤ j → (m < j) ⊎ (j ≡ m)
+    later-or-same m j u = below m j inl (λ h. inr (omega arith))
+
+add-i : tie.Need-add-i Inv-loop μ-loop Inv-spans μ-spans
+add-i c = omega (arith, in-text (c .before), rows-of (loopOf (otherLoop (c .before))) .tokens .0)
+
+loop-less-2 : tie.Need-loop-less-2 Inv-loop μ-loop Inv-spans μ-spans
+loop-less-2 c = omega (arith, in-text (c .before))
+
+loop-again-2 : tie.Need-loop-again-2 Inv-loop μ-loop Inv-spans μ-spans
+loop-again-2 c =
+    let o = c .before in
+    let l = otherLoop o in
+    let k = tokensOf (loopOf l) in
+    let j = l .loop .i in
+    let s = l .loop .inv .0 in
+    rw (add-one j) (
+      record {
+        before =
+            before-quiet k (rolesOf (loopOf l)) _ j (suc j) (s .before)
+            (λ m x y op. let same : m ≡ j = omega arith in clash (rw same at op) (none-opens o));
+        whole-text = s .whole-text;
+        counted =
+            omega (
+              arith,
+              s .counted,
+              spare-last k 0 j (omega arith),
+              spare-none k j (none-opens o) (λ e. c .if6 .left (o .before .before .kind .ensures ∙ e)),
+            );
+        in-text = in-text o;
+      },
+      omega (arith, l .loop .inv .1),
     )
 
-add-i : tie.Need-add-i Inv-spans μ-spans
-add-i c = omega (arith, c .before .before .before .before .if2 .left, rows-of (searched (c .before .before .before .before .before)) .tokens .0)
+closer-requires-2 : tie.Need-closer-requires-2 Inv-loop μ-loop Inv-spans μ-spans
+closer-requires-2 c κs = tokens-hold (loopOf (openerLoop c)) (openerLoop c .loop .i) (opener-inside c)
 
-spans-less-2 : tie.Need-spans-less-2 Inv-spans μ-spans
-spans-less-2 c = omega (arith, c .before .before .before .before .if2 .left)
+add-from : tie.Need-add-from Inv-loop μ-loop Inv-spans μ-spans
+add-from c = omega (arith, opener-inside (c .before), rows-of (loopOf (openerLoop (c .before))) .tokens .0)
 
-spans-again-2 : tie.Need-spans-again-2 Inv-spans μ-spans
-spans-again-2 c =
-    let a = nextOf (c .before) in
-    let p = passed (c .before) in (
-      rw (add-one (a .spans .i))
+spans-less : tie.Need-spans-less Inv-loop μ-loop Inv-spans μ-spans
+spans-less c = omega (arith, opener-inside (c .before), openerLoop (c .before) .loop .inv .1)
+
+spans-again : tie.Need-spans-again Inv-loop μ-loop Inv-spans μ-spans
+spans-again c =
+    let o = c .before in
+    let l = openerLoop o in (
+      inr
           (record {
-            before = p .before;
-            whole-text = p .whole-text;
-            counted = p .counted (λ e. c .if4 .left (c .before .before .before .kind .ensures ∙ e));
-            in-text = c .before .before .before .before .if2 .left;
+            opener = l .loop .i;
+            begins = add-one (l .loop .i);
+            ends = c .closer2 .ensures;
+            opens = opens-at o;
+            inside = opener-inside o;
+            state = l .loop .inv .0;
           }),
-      p .as-long ∙ a .spans .inv .1,
+      noted (l .before .before) .1,
     )
 
-same-length-3 : tie.Need-same-length-3 Inv-spans μ-spans
-same-length-3 c = roots-long (c .before)
+same-length : tie.Need-same-length Inv-loop μ-loop Inv-spans μ-spans
+same-length c = row-long (afterNone (c .before))
 
-returns-3 : tie.Need-returns-3 Inv-spans μ-spans
-returns-3 c =
-    let a = c .before in
-    let r = searched a in
-    let inv = a .spans .inv .0 in
-    let all : a .spans .i ≡ size r = omega (arith, inv .in-text, c .if2 .taken) in
+returns : tie.Need-returns Inv-loop μ-loop Inv-spans μ-spans
+unfolding treeless
+returns c =
+    let r = afterNone (c .before) in
+    let a = here r in
+    let w = whole-at a (c .if2 .taken) in
+    let k = lost (c .before) in
+    let s = searched-at (w .first) (w .all) refl (none-searched (c .before)) in
     record {
       answer =
           λ text T f.
-          text-answer text (tokensOf r) (rolesOf r) (a .spans .roots) T (size r) (a .spans .nodes) _
-          (text-hung text (tokensOf r) (rolesOf r) (a .spans .roots) T (size r) _ f (inv .whole-text text T f) (rw all at (inv .before)))
-          (rw all at (inv .counted));
-      long = roots-long a;
+          refused-answer text (tokensOf a) (rolesOf a) T (size a) _ none k
+          (whole-refused text (tokensOf a) (rolesOf a) T (size a) k (searched-none (tokensOf a) (rolesOf a) _ _ 0 (size a) k s text T f));
+      long = row-long r;
     }
 
-same-length-4 : tie.Need-same-length-4 Inv-spans μ-spans
-same-length-4 c =
-    let r = c .before .before .before .before in
-    inner-searched r .kept .long ∙ roots-long (here r)
+same-length-2 : tie.Need-same-length-2 Inv-loop μ-loop Inv-spans μ-spans
+same-length-2 c = row-long (afterNone (c .before))
 
-returns-4 : tie.Need-returns-4 Inv-spans μ-spans
+returns-2 : tie.Need-returns-2 Inv-loop μ-loop Inv-spans μ-spans
 unfolding treeless
-returns-4 c =
-    let r = c .before .before .before .before in
+returns-2 c =
+    let r = afterNone (c .before) in
     let a = here r in
-    let o = opener r in
-    let n = size (searched a) in
-    let inv = a .spans .inv .0 in
-    let s = searched-at refl refl (c .enum-told2 .given .1) (inner-searched r) in
+    let K = tokensOf a in
+    let R = rolesOf a in
+    let b = behind-at a (c .if2 .left) in
+    let k = lost (c .before) in
+    let s = searched-at (b .begins) (b .ends) refl (none-searched (c .before)) in
+    let e : a .spans .from - 1 ≡ b .opener = omega (arith, b .begins) in
     record {
       answer =
           λ text T f.
-          let t = inv .whole-text text T f in
-          refused-answer text (K r) (R r) T n (row r) (some (i r))
-          (behind-refused text (K r) (R r) T n (i r) (parts text (K r) (R r) (f .bounded) (f .agrees)) (t .tree) (t .found)
-          (o .before .before .before .if2 .left) (opens-at o)
-          (λ m l op U g. let x = inv .before m l op text U g in (x .tree, x .found))
-          (searched-none (K r) (R r) _ (row r) (suc (i r)) (closer (K r) (i r)) s text));
-      long = inner-searched r .kept .long ∙ roots-long a;
+          let t = b .state .whole-text text T f in
+          subst (λ j. Checks text T K (size a) (row r) (treeOf T (range text K 0 (size a))) (treeless (some j) k)) (sym e)
+          (refused-answer text K R T (size a) (row r) (some (b .opener)) k
+          (behind-refused text K R T (size a) (b .opener) k (parts text K R (f .bounded) (f .agrees)) (t .tree) (t .found) (b .inside) (b .opens)
+          (λ m l op U g. let x = b .state .before m l op text U g in (x .tree, x .found))
+          (searched-none K R _ (row r) (suc (b .opener)) (closer K (b .opener)) k s text)));
+      long = row-long r;
+    }
+
+same-length-3 : tie.Need-same-length-3 Inv-loop μ-loop Inv-spans μ-spans
+same-length-3 c = noted (c .before) .1
+
+returns-3 : tie.Need-returns-3 Inv-loop μ-loop Inv-spans μ-spans
+returns-3 c =
+    let a = notedAt (c .before) in
+    let K = tokensOf a in
+    let s = noted (c .before) .0 in
+    let low = a .before .before .before .before .pre .1 (not-true _ (c .if3 .taken)) in
+    let spares-none : (m : ℕ) → m ≤ size a → spareTo K 0 m ≡ 0 = λ m l. spare-nothing K 0 m (λ j x y. spare-atom K j (low j (omega arith))) in
+    record {
+      answer =
+          λ text T f.
+          text-answer text K (rolesOf a) _ T (size a) _ _
+          (text-hung text K (rolesOf a) _ T (size a) _ f (s .whole-text text T f) (λ j b o. absurd (atom-opens-none K j (low j b) o)))
+          (omega (arith, s .counted, spares-none (a .spans .from) (s .in-text), spares-none (size a) (omega arith)));
+      long = noted (c .before) .1;
+    }
+
+same-length-4 : tie.Need-same-length-4 Inv-loop μ-loop Inv-spans μ-spans
+same-length-4 c = noted (c .before .before .before) .1
+
+returns-4 : tie.Need-returns-4 Inv-loop μ-loop Inv-spans μ-spans
+returns-4 c =
+    let l = c .before in
+    record {
+      answer = ended-answer (loopOf l) _ (l .loop .nodes) (l .loop .i) _ (l .loop .inv .0) (c .if4 .taken);
+      long = noted (l .before .before) .1;
     }
 
 pub check-spec : {M : Type 1} → statement M
 check-spec =
     tie.close
     (tie.spec
+    Inv-loop
+    μ-loop
     Inv-spans
     μ-spans
+    spans-holds
     root-requires
     enum-known-at
-    enum-told
+    sub-set-left
+    add-set-left
+    set-left-requires
+    sub-nodes
+    enum-known-at-2
+    sub-t27
+    loop-holds
+    kind-requires
+    opens-span-requires
+    closer-requires
+    sub-nodes-2
+    sub-nodes-3
+    loop-less
+    loop-again
+    add-i
+    loop-less-2
+    loop-again-2
+    closer-requires-2
+    add-from
+    spans-less
+    spans-again
     same-length
     returns
     same-length-2
     returns-2
-    spans-holds
-    kind-requires
-    opens-span-requires
-    closer-requires
-    add-root
-    root-requires-2
-    enum-known-at-2
-    add-set-left
-    set-left-requires
-    enum-told-2
-    sub-nodes
-    closer-requires-2
-    sub-nodes-2
-    sub-nodes-3
-    spans-less
-    spans-again
-    add-i
-    spans-less-2
-    spans-again-2
     same-length-3
     returns-3
     same-length-4
