@@ -1,12 +1,12 @@
 /* Reads a rule, given as an argument or on standard input, and prints the answer, the nodes, names by characters, and the canonical
-   text. */
+   text; of a rule without a tree, where it is lost. */
 #include "rule_reader.h"
 
 #include <stdio.h>
 #include <string.h>
 
-#if RULE_READER_VERSION < 60000 || RULE_READER_VERSION >= 70000
-#error "written for version 6 of rule_reader.h"
+#if RULE_READER_VERSION < 60100 || RULE_READER_VERSION >= 70000
+#error "written for version 6 of rule_reader.h, from 6.1.0 on"
 #endif
 
 /* By number; 14 to 16 are not given. */
@@ -30,6 +30,17 @@ static void print_answer(const char *service, struct rule_answer answer)
         printf(", refused %d at %zu\n", answer.number, answer.offset);
 }
 
+/* Prints a text without a tree on one line, and below it where it is lost. Each of its bytes is a blank or can be printed. */
+static void print_lost(const uint8_t *text, size_t length)
+{
+    struct rule_answer answer = rule_locate(text, length);
+    print_answer("rule_locate", answer);
+    for (size_t i = 0; i < length; i++)
+        putchar(text[i] < ' ' ? ' ' : text[i]);
+    printf("\n%*s^ %s\n", (int)answer.offset, "",
+           answer.offset < length ? "this cannot follow what stands before it" : "an operand is missing");
+}
+
 int main(int argc, char **argv)
 {
     static uint32_t nodes[RULE_TABLE_WORDS];
@@ -49,6 +60,8 @@ int main(int argc, char **argv)
 
     struct rule_answer answer = rule_read(text, length, nodes, RULE_TABLE_WORDS);
     print_answer("rule_read", answer);
+    if (answer.number == RULE_NO_TREE)
+        print_lost(text, length);
     if (answer.number != RULE_READ)
         return 1;
     if (answer.count == 0)

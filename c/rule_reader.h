@@ -1,16 +1,17 @@
 /*
- * The rule reader for C and C++: three services, proved against the definitions of documents 01 and 02.
+ * The rule reader for C and C++: four services, proved against the definitions of documents 01 and 02.
  *
  *     rule_read           turns a text into a tree, written as a table of 32-bit words
  *     rule_canonicalize   turns a text into its canonical text
  *     rule_write_name     writes the characters of the name at a node of such a table
+ *     rule_locate         says where a text that is refused with RULE_NO_TREE is lost
  *
  * Link with target/staticlib/librule_reader.a (x86-64 Linux), which `rt staticlib rule_reader` writes. It needs memcpy and memset
  * and nothing else. c/rule_reader.pc is for pkg-config.
  *
  * A blank rule is a text that is empty or all blanks (bytes 9, 10, 13 and 32), of at most 16,384 bytes. It means nobody. rule_read
  * and rule_canonicalize answer with RULE_READ and count 0 and write nothing, whatever the length of the table or buffer: there is
- * no root. They give no other text RULE_READ with count 0.
+ * no root. They give no other text RULE_READ with count 0. (rule_locate writes nothing and always has count 0.)
  *
  * Quoted names. A quoted name has 1 to 63 characters, bytes from 32 to 126; a quote among them is written as two, as in
  * 'O''Neill'. A node gives the bytes as written between the outer quotes, O''Neill, at most 126. rule_write_name gives the
@@ -31,12 +32,12 @@
  * Threads. There are no variables outside a call: several threads may call at once, each with a table or buffer of its own to write
  * to. They may share a text, and for rule_write_name also a table.
  *
- * Stack. At most 192 KB for rule_read, 96 KB for rule_canonicalize and 4 KB for rule_write_name. Measured on 2026-11-17, not
- * proved, the most found: 187,928 bytes for `not` 1,023 times and then a name, 95,184 bytes for 32 nested blocks, and 88 bytes.
- * c/stack.c measures it.
+ * Stack. At most 192 KB for rule_read, 96 KB for rule_canonicalize, 4 KB for rule_write_name and 96 KB for rule_locate. Measured on
+ * 2026-11-17, not proved, the most found: 187,928 bytes for `not` 1,023 times and then a name, 95,184 bytes for 32 nested blocks,
+ * and 88 bytes. c/stack.c measures it.
  *
  * Division. No call divides or takes a remainder, so a processor without an instruction for it needs no routine. c/divisions looks
- * at every function that the three call, before it is compiled, and at this archive.
+ * at every function that the four call, before it is compiled, and at this archive.
  */
 #ifndef RULE_READER_H
 #define RULE_READER_H
@@ -52,17 +53,17 @@
  *   - PATCH: neither this header's declarations nor any result has changed.
  * CHANGELOG.md says for each version what a program has to change. Since 4.0.0 a node has one word more, its precedence, so a
  * program for an earlier version must be changed and compiled anew. Since 5.0.0 more rules are read (RULE_BAD_OVERLOADING). Since
- * 6.0.0 a quoted name can have quotes (rule_write_name).
+ * 6.0.0 a quoted name can have quotes (rule_write_name). Since 6.1.0 there is rule_locate.
  *
- * RULE_READER_VERSION is one number to compare, 60000 for 6.0.0. Headers before 4.0.0 do not define it, and #if takes it as 0. So a
+ * RULE_READER_VERSION is one number to compare, 60100 for 6.1.0. Headers before 4.0.0 do not define it, and #if takes it as 0. So a
  * program says at compile time for which version it was written:
  *
- *     #if RULE_READER_VERSION < 60000 || RULE_READER_VERSION >= 70000
- *     #error "written for version 6 of rule_reader.h"
+ *     #if RULE_READER_VERSION < 60100 || RULE_READER_VERSION >= 70000
+ *     #error "written for version 6 of rule_reader.h, from 6.1.0 on"
  *     #endif
  */
 #define RULE_READER_VERSION_MAJOR 6
-#define RULE_READER_VERSION_MINOR 0
+#define RULE_READER_VERSION_MINOR 1
 #define RULE_READER_VERSION_PATCH 0
 #define RULE_READER_VERSION \
     (10000 * RULE_READER_VERSION_MAJOR + 100 * RULE_READER_VERSION_MINOR + RULE_READER_VERSION_PATCH)
@@ -85,7 +86,7 @@ enum {
  * given. 17 comes between 8 and 9: for each declaration 8, then 17, then 9.
  */
 enum rule_number {
-    RULE_READ = 0,                   /* read, or canonical text or a name written; also of a blank rule */
+    RULE_READ = 0,                   /* read, or canonical text or a name written, or nothing to locate; also of a blank rule */
     RULE_TEXT_TOO_LONG = 1,          /* the text has more than 16,384 bytes; place 16384 */
     RULE_BAD_BYTE = 2,               /* a byte begins no token; the byte */
     RULE_BAD_QUOTED_NAME = 3,        /* a quoted name has no character, more than 63 or a byte not from 32 to 126, or is not closed
@@ -97,7 +98,8 @@ enum rule_number {
     RULE_BAD_DECLARATION = 8,        /* a declaration is malformed, or its precedence is not 1 to 1200; the first unfit token */
     RULE_TOO_MANY_OPERATORS = 9,     /* a 65th operator is in force; the operator */
     RULE_BAD_OVERLOADING = 10,       /* an operator is both infix and postfix, and one breaks the four conditions; the `in` */
-    RULE_NO_TREE = 11,               /* a span has no tree; 0 for the whole text, the `(`, or the `in`. A blank rule is read */
+    RULE_NO_TREE = 11,               /* a span has no tree; 0 for the whole text, the `(`, or the `in`; rule_locate gives another
+                                        place. A blank rule is read */
     RULE_TABLE_TOO_SHORT = 12,       /* rule_read: the node table has fewer than RULE_NODE_WORDS words for each node; 0 */
     RULE_CANONICAL_TOO_LONG = 13,    /* rule_canonicalize: the canonical text is over the buffer or 16,384 bytes; rule_write_name:
                                         the characters are over the buffer; 0 */
@@ -106,8 +108,8 @@ enum rule_number {
 
 /*
  * The answer of each service. Number RULE_READ: offset 0, and count is how many nodes or bytes were written; of rule_read and
- * rule_canonicalize 0 exactly if the text is a blank rule. Any other number is a refusal: offset is its place, count is 0, and no
- * word or byte of the table or buffer has changed.
+ * rule_canonicalize 0 exactly if the text is a blank rule, of rule_locate always 0. Any other number is a refusal: offset is its
+ * place, count is 0, and no word or byte of the table or buffer has changed.
  */
 struct rule_answer {
     uint8_t number;
@@ -173,6 +175,30 @@ struct rule_answer rule_canonicalize(const uint8_t *text, size_t text_length, ui
  */
 struct rule_answer rule_write_name(const uint8_t *text, size_t text_length, const uint32_t *nodes, size_t nodes_length, size_t node,
                                    uint8_t *buffer, size_t buffer_length);
+
+/*
+ * Says where a text is lost that is refused with RULE_NO_TREE. (rule_read gives the start of the span that has no tree, which is
+ * often far from the fault.) Nothing is written, and count is 0.
+ *   - A text that rule_read can read, also a blank rule: RULE_READ, offset 0.
+ *   - A refusal other than 11: its number and its place, as rule_read gives them.
+ *   - RULE_NO_TREE: the offset is the first byte of the first item, in the first span without a tree, up to which the span's items
+ *     can no longer be continued: no items whatsoever that begin with these have a tree under the operators in force there. Where
+ *     they can all still be continued, an operand is missing at the end of the span, and the offset is that of its `)` or `end`,
+ *     or the text's length for the whole text.
+ * The span is the one whose start rule_read gives: the whole text, what is inside a bracket pair, or the body of a block. An item
+ * is a name, number or operator of the span itself, or a whole bracket pair or block in it, whose first byte is its `(` or `let`;
+ * that of a quoted name is its quote. For example:
+ *
+ *     grade = 7 AND boarder     10, `AND`: a name cannot stand behind an operand
+ *     grade == 7                6, `==`: no operator has this name, so it is a name too
+ *     a - - b                   4, the second `-`: the first does not admit it as its right operand
+ *     a = b = c                 6, the second `=`: it does not admit a = b as its left operand
+ *     a +                       3, the text's length: an operand is missing
+ *     ( a + ) * b               6, the `)`
+ *
+ * Gives RULE_READ and the refusals 1 to 11 and 17; never 12 and 13.
+ */
+struct rule_answer rule_locate(const uint8_t *text, size_t text_length);
 
 #ifdef __cplusplus
 }

@@ -1,5 +1,5 @@
 /*
- * Measures the stack of the three services on the texts that need the most, and fails above the bounds. Each call runs on a thread
+ * Measures the stack of the four services on the texts that need the most, and fails above the bounds. Each call runs on a thread
  * whose stack was filled with a pattern; what it needed reaches from the caller's frame down to the lowest byte that changed.
  * Each is called twice, with two patterns, so that a byte which happens to be the pattern's hides nothing.
  */
@@ -13,10 +13,10 @@
 #include <string.h>
 #include <sys/mman.h>
 
-enum service { READ, CANONICALIZE, WRITE_NAME, SERVICES };
+enum service { READ, CANONICALIZE, WRITE_NAME, LOCATE, SERVICES };
 
 /* What the header tells a user. */
-static const size_t allowed[SERVICES] = {192 * 1024, 96 * 1024, 4 * 1024};
+static const size_t allowed[SERVICES] = {192 * 1024, 96 * 1024, 4 * 1024, 96 * 1024};
 
 enum { STACK = 1024 * 1024 };
 
@@ -40,8 +40,10 @@ static void *run(void *argument)
         call->answer = rule_read((const uint8_t *)text, strlen(text), nodes, RULE_TABLE_WORDS);
     else if (call->service == CANONICALIZE)
         call->answer = rule_canonicalize((const uint8_t *)text, strlen(text), buffer, RULE_BUFFER_BYTES);
-    else
+    else if (call->service == WRITE_NAME)
         call->answer = rule_write_name((const uint8_t *)text, strlen(text), nodes, RULE_TABLE_WORDS, 0, buffer, RULE_BUFFER_BYTES);
+    else
+        call->answer = rule_locate((const uint8_t *)text, strlen(text));
     return NULL;
 }
 
@@ -80,8 +82,8 @@ static size_t needed(enum service service, struct rule_answer *answer)
 static size_t most[SERVICES];
 
 /*
- * Measures the text of the last `add`s, which rule_read and rule_canonicalize answer with `number`, and rule_write_name on the
- * first node of its table, or of the last table if it is refused; begins a new text.
+ * Measures the text of the last `add`s, which rule_read, rule_canonicalize and rule_locate answer with `number`, and
+ * rule_write_name on the first node of its table, or of the last table if it is refused; begins a new text.
  */
 static void row(const char *name, enum rule_number number)
 {
@@ -219,6 +221,39 @@ static void try_nested(void)
     row("32 nested blocks, no tree inside", RULE_NO_TREE);
 }
 
+/* Texts without a tree, lost far from the start of the span. */
+static void try_lost(void)
+{
+    repeat("not ", 1024);
+    row("1,024 x `not `", RULE_NO_TREE);
+    repeat("a + ", 512);
+    row("512 x `a + `", RULE_NO_TREE);
+    repeat("a and ", 511); repeat("a a", 1);
+    row("511 x `a and `, `a a`", RULE_NO_TREE);
+    repeat("(", 32); repeat("not ", 960); repeat(")", 32);
+    row("960 x `not ` in 32 brackets", RULE_NO_TREE);
+    open_blocks(32); repeat("not ", 700); repeat(" end", 32);
+    row("32 nested blocks, 700 x `not ` inside, no operand", RULE_NO_TREE);
+    full_table("right");
+    for (int i = 0; i < 340; i++)
+        add(" o%d a", i / 7);
+    repeat(" a end", 1);
+    row("64 operators, 340 uses, right-associative, `a a` behind", RULE_NO_TREE);
+    full_table("left");
+    for (int i = 0; i < 340; i++)
+        add(" o%d a", 55 - i / 7);
+    repeat(" o0 end", 1);
+    row("64 operators, 341 uses, left-associative, no operand", RULE_NO_TREE);
+}
+
+static void print_bytes(const char *name, const size_t *bytes)
+{
+    printf("%-56s %6s", name, "");
+    for (int service = READ; service < SERVICES; service++)
+        printf(" %13zu", bytes[service]);
+    printf("\n");
+}
+
 int main(void)
 {
     stack = mmap(NULL, STACK, PROT_READ | PROT_WRITE, MAP_PRIVATE | MAP_ANONYMOUS, -1, 0);
@@ -232,13 +267,14 @@ int main(void)
     }
     text[0] = 0;
 
-    printf("%-56s %6s %13s %13s %13s\n", "stack in bytes", "text", "read", "canonicalize", "write_name");
+    printf("%-56s %6s %13s %13s %13s %13s\n", "stack in bytes", "text", "read", "canonicalize", "write_name", "locate");
     try_short();
     try_names();
     try_operators();
     try_nested();
-    printf("%-56s %6s %13zu %13zu %13zu\n", "the most", "", most[READ], most[CANONICALIZE], most[WRITE_NAME]);
-    printf("%-56s %6s %13zu %13zu %13zu\n", "allowed", "", allowed[READ], allowed[CANONICALIZE], allowed[WRITE_NAME]);
+    try_lost();
+    print_bytes("the most", most);
+    print_bytes("allowed", allowed);
     for (int service = READ; service < SERVICES; service++)
         if (most[service] > allowed[service])
             stop("more stack than the bound");

@@ -1,5 +1,5 @@
 /*
- * A test of the three services by what must hold of every call: damaged texts, random texts, lent parts of every length around the
+ * A test of the four services by what must hold of every call: damaged texts, random texts, lent parts of every length around the
  * result. A text, and a table that is only read, begin or end at a page that may not be touched. Before and behind the lent part of
  * a table or buffer that is written to stands a pattern.
  */
@@ -14,8 +14,8 @@
 #include <sys/mman.h>
 #include <unistd.h>
 
-#if RULE_READER_VERSION < 60000 || RULE_READER_VERSION >= 70000
-#error "written for version 6 of rule_reader.h"
+#if RULE_READER_VERSION < 60100 || RULE_READER_VERSION >= 70000
+#error "written for version 6 of rule_reader.h, from 6.1.0 on"
 #endif
 
 _Static_assert(RULE_NODE_WORDS == 6 && RULE_NODE_PRECEDENCE == RULE_NODE_WORDS - 1, "six words to a node, the precedence last");
@@ -277,6 +277,26 @@ static void try_nodes(const uint8_t *text, size_t length, const uint32_t *nodes,
     try_name(text, length, words, sizeof words / sizeof *words, below(4));
 }
 
+/* rule_locate on a text; `read` is what rule_read answers, with a table that is long enough. */
+static struct rule_answer call_locate(const uint8_t *text, size_t length, struct rule_answer read)
+{
+    uint8_t *start = put_text(text, length);
+    struct rule_answer answer = rule_locate(start, length);
+    CHECK(answer.number == read.number && answer.count == 0, "rule_locate: %d, count %zu; rule_read: %d", answer.number,
+          answer.count, read.number);
+    if (answer.number != RULE_NO_TREE) {
+        CHECK(answer.offset == read.offset, "rule_locate: %d at %zu, rule_read at %zu", answer.number, answer.offset, read.offset);
+    } else {
+        CHECK(answer.offset >= read.offset && answer.offset <= length, "rule_locate: 11 at %zu, the span at %zu", answer.offset,
+              read.offset);
+        CHECK(answer.offset == length || text[answer.offset] > 32, "rule_locate: 11 at %zu, a blank", answer.offset);
+    }
+    CHECK(length == 0 || memcmp(start, text, length) == 0, "rule_locate changed the text");
+    by_number[answer.number]++;
+    calls++;
+    return answer;
+}
+
 /* ---- the services on one text */
 
 /* A text with its node table. */
@@ -319,7 +339,41 @@ static bool agree(const struct reading *a, uint32_t i, const struct reading *b, 
         && (kind != RULE_INFIX || agree(a, n[RULE_NODE_SECOND], b, m[RULE_NODE_SECOND]));
 }
 
-/* rule_read and rule_canonicalize with lent parts that are long enough, rule_write_name on some nodes. */
+/*
+ * The place at which a text is lost that has itself no tree, where a bracket in it cannot be taken for it. Up to the place it is
+ * read, or an inner span has no tree, or it is lost at its end. With an operand behind it the whole text is lost there again, or
+ * has a tree if the operand was missing; then an inner span may have none. The operand can be one token or byte too many.
+ */
+static void try_place(const uint8_t *text, size_t length, size_t place)
+{
+    static uint8_t longer[LONGEST + 2];
+    struct rule_answer read = call_read(text, place, RULE_TABLE_WORDS);
+    CHECK(read.number == RULE_READ || read.number == RULE_NO_TREE, "cut at %zu: %d", place, read.number);
+    struct rule_answer answer = call_locate(text, place, read);
+    CHECK(read.number == RULE_READ || read.offset > 0 || answer.offset == place, "cut at %zu: 11 at %zu", place, answer.offset);
+    memcpy(longer, text, length);
+    memcpy(longer + length, " 1", 2);
+    read = call_read(longer, length + 2, RULE_TABLE_WORDS);
+    answer = call_locate(longer, length + 2, read);
+    if (read.number == RULE_TEXT_TOO_LONG || read.number == RULE_TOO_MANY_TOKENS)
+        return;
+    if (place < length)
+        CHECK(read.number == RULE_NO_TREE && read.offset == 0 && answer.offset == place, "with an operand: %d at %zu, then at %zu",
+              read.number, read.offset, answer.offset);
+    else
+        CHECK(read.number == RULE_READ || (read.number == RULE_NO_TREE && read.offset > 0), "with an operand: %d at %zu",
+              read.number, read.offset);
+}
+
+/* rule_locate on a text that rule_read has answered, with a table that is long enough. */
+static void try_locate(const uint8_t *text, size_t length, struct rule_answer read)
+{
+    struct rule_answer answer = call_locate(text, length, read);
+    if (read.number == RULE_NO_TREE && read.offset == 0 && text[0] != '(')
+        try_place(text, length, answer.offset);
+}
+
+/* rule_read and rule_canonicalize with lent parts that are long enough, rule_locate, rule_write_name on some nodes. */
 static struct rule_answer try_text(const void *bytes_of_text, size_t length)
 {
     static struct reading first, second;
@@ -329,6 +383,7 @@ static struct rule_answer try_text(const void *bytes_of_text, size_t length)
     struct rule_answer read = call_read(text, length, RULE_TABLE_WORDS);
     CHECK(read.number != RULE_TABLE_TOO_SHORT, "refused 12 with %d words", RULE_TABLE_WORDS);
     struct rule_answer answer = call_canonicalize(text, length, RULE_BUFFER_BYTES);
+    try_locate(text, length, read);
     if (read.number != RULE_READ) {
         CHECK(answer.number == read.number && answer.offset == read.offset,
               "rule_read refused %d at %zu, rule_canonicalize %d at %zu", read.number, read.offset, answer.number, answer.offset);
@@ -778,6 +833,31 @@ static void try_names(void)
     }
 }
 
+/* Texts that are refused with 11, with a ^ before the byte at which each is lost. */
+static void try_lost(void)
+{
+    static const char *const lost[] = {
+        "grade = 7 ^AND boarder", "grade ^== 7", "form = 7^B", "a + ^", "a +^", "a +\t\r\n^", "not^", "a - ^- b", "a = b ^= c",
+        "a * ^- b", "^+ a", "  ^+", "a ^b", "a ^'b'", "'a''b' ^'c'", "a ^( b )", "( ) ^a", "a ^( )", "a ^let in b end",
+        "( a + ) ^b", "( ^)", "(^)", "( a ^b )", "( a + ^)", "( ( a b ) + ^)", "( ( a ^b ) )", "a + ( b ^c ) + d",
+        "grade = 7 and (boarder or^)", "boarder and not ^and leaver", "let in ^end", "let in a ^b end", "let in a + ^end",
+        "let plain + ; in a ^+ b end", "let infix right 400 r ; in a + b ^r c end",
+        "let infix left 350 s ; postfix left 350 s ; in a s - ^end", "let infix non 450 s ; postfix non 450 s ; in a s ^s b end",
+    };
+    for (size_t i = 0; i < sizeof lost / sizeof *lost; i++) {
+        static char string[200];
+        size_t place = strcspn(lost[i], "^"), length = strlen(lost[i]) - 1;
+        memcpy(string, lost[i], place);
+        memcpy(string + place, lost[i] + place + 1, length - place);
+        const uint8_t *text = (const uint8_t *)string;
+        struct rule_answer answer = call_locate(text, length, try_text(text, length));
+        CHECK(answer.number == RULE_NO_TREE && answer.offset == place, "expected 11 at %zu, got %d at %zu", place, answer.number,
+              answer.offset);
+        for (size_t cut = 0; cut < length; cut++)
+            try_text(text, cut);
+    }
+}
+
 static void expect_at_0(const uint8_t *text, size_t length, struct rule_answer answer, enum rule_number number)
 {
     check_answer(text, length, answer, 0, 0);
@@ -803,6 +883,7 @@ static void try_empty(void)
         expect_at_0(text, 0, rule_write_name(nowhere, 0, node, RULE_NODE_WORDS, 0, nowhere, 0), RULE_READ);
         expect_at_0(blank, 1, rule_write_name(blank, 1, no_words, 0, 0, nowhere, 0), RULE_READ);
         expect_at_0(text, 1, rule_write_name(text, 1, node, RULE_NODE_WORDS, 0, nowhere, 0), RULE_CANONICAL_TOO_LONG);
+        expect_at_0(text, 0, rule_locate(nowhere, 0), RULE_READ);
     }
 }
 
@@ -831,6 +912,7 @@ int main(void)
     try_precedences();
     try_short_tables();
     try_names();
+    try_lost();
     try_empty();
     try_limits();
     try_blank();

@@ -21,6 +21,7 @@ unsafe extern "C" {
         buffer: *mut u8,
         buffer_len: usize,
     ) -> RuleAnswer;
+    fn rule_locate(text: *const u8, text_len: usize) -> RuleAnswer;
 }
 
 impl From<RuleAnswer> for Answer {
@@ -44,4 +45,9 @@ pub fn write_name(text: &[u8], nodes: &[u32], node: usize, buffer: &mut [u8]) ->
     // SAFETY: as in `read`.
     unsafe { rule_write_name(text.as_ptr(), text.len(), nodes.as_ptr(), nodes.len(), node, out, out_len) }
         .into()
+}
+
+pub fn locate(text: &[u8]) -> Answer {
+    // SAFETY: as in `read`.
+    unsafe { rule_locate(text.as_ptr(), text.len()) }.into()
 }

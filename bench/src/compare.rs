@@ -26,13 +26,16 @@ pub fn run(seed: u64, n: u64) -> Result<(), String> {
         tally: Tally::new("canonical text", |bits| (bits >> 56) as u8),
     };
     let mut names = Tally::new("names", |bits| (bits >> 56) as u8);
+    let mut places = Tally::new("places", |_| ());
     for _ in 0..n {
         let text = texts.next();
         reading.compare(&text, &mut random);
         canonical.compare(&text, &mut random);
         compare_names(&mut names, &text, &mut random);
+        compare_places(&mut places, &text, &mut random);
     }
-    reading.tally.report(n).and(canonical.tally.report(n)).and(names.report(n))
+    let reports = [reading.tally.report(n), canonical.tally.report(n), names.report(n), places.report(n)];
+    reports.into_iter().collect()
 }
 
 /// How often the answers had each number, and how often the two readers
@@ -184,4 +187,11 @@ fn compare_name(names: &mut Tally<u8>, text: &[u8], nodes: &[u32], node: usize, 
         let archive = |buffer: &mut [u8]| archive::write_name(text, nodes, node, buffer);
         names.compare(text, shown, len, random, [&rust, &archive]);
     }
+}
+
+/// Where a text is lost: no buffer.
+fn compare_places(places: &mut Tally<()>, text: &[u8], random: &mut Random) {
+    let rust = |_: &mut [()]| reader::locate(text);
+    let archive = |_: &mut [()]| archive::locate(text);
+    places.compare(text, String::new, 0, random, [&rust, &archive]);
 }

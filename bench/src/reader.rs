@@ -1,7 +1,7 @@
 //! The reader of document 01, with document 02's reserved operators, blank
 //! rules, precedences of nodes, wider overloading rule and quotes in quoted
 //! names: a text in, a node table or canonical text out. A third service writes
-//! the characters of a name.
+//! the characters of a name, a fourth says where a text without a tree is lost.
 //!
 //! Four linear passes: tokens (checks 1 to 5), nesting (6, 7), operators in
 //! force (8, 17, 9, 10), trees (11). Nothing is written before check 12, or 13
@@ -9,6 +9,7 @@
 //! has been scanned.
 
 pub mod canonical;
+pub mod continuation;
 pub mod list;
 pub mod name;
 pub mod nesting;
@@ -20,7 +21,7 @@ pub mod tree;
 
 use list::List;
 use token::{Kind, Token};
-use tree::{Node, NodeKind};
+use tree::{NO_TREE, Node, NodeKind};
 
 pub const MAX_BYTES: usize = 16_384;
 pub const MAX_TOKENS: usize = 1024;
@@ -94,6 +95,20 @@ pub fn canonicalize(text: &[u8], buffer: &mut [u8]) -> Answer {
 #[inline(never)]
 pub fn write_name(text: &[u8], nodes: &[u32], node: usize, buffer: &mut [u8]) -> Answer {
     Answer::new(name::write(name::written(text, nodes, node), buffer))
+}
+
+/// Where a text is refused, as `read` says but for check 11. There it is the
+/// first item of the first span without a tree such that no items behind it
+/// give a tree, or the span's end. No buffer is lent, so 12 and 13 are not
+/// given, and the count is 0.
+#[inline(never)]
+pub fn locate(text: &[u8]) -> Answer {
+    let mut tokens = List::new();
+    let refused = analyze(text, &mut tokens, &mut List::new()).map_err(|reject| match reject.number {
+        NO_TREE => Reject::new(NO_TREE, continuation::place(&tokens, text.len())),
+        _ => reject,
+    });
+    Answer::new(refused.map(|()| 0))
 }
 
 /// Document 02, section 7: "A text that is empty or all blanks, past check 1,

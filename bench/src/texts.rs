@@ -1,6 +1,7 @@
 //! Random texts for comparisons, the same for the same seed.
 
 mod damage;
+mod items;
 mod limits;
 mod quoted;
 mod random;
@@ -27,13 +28,14 @@ impl Texts {
         let random = &mut self.random;
         match random.below(100) {
             0 => blank_text(random),
-            1..8 => random_bytes(random),
-            8..22 => random_tokens(random),
-            22..62 => {
+            1..7 => random_bytes(random),
+            7..19 => random_tokens(random),
+            19..56 => {
                 let tokens = rules::rule(random);
                 join(random, &tokens)
             }
-            62..94 => damage::damaged_rule(random),
+            56..84 => damage::damaged_rule(random),
+            84..94 => items::text(random),
             _ => limits::text(random),
         }
     }
@@ -85,6 +87,11 @@ pub fn random_token(random: &mut Random) -> Vec<u8> {
         1 => quoted::damaged(random),
         _ => random.pick(TOKENS).as_bytes().to_vec(),
     }
+}
+
+/// The tokens of a text in which blanks stand between any two.
+fn split(text: &str) -> Tokens {
+    text.split_whitespace().map(|token| token.into()).collect()
 }
 
 /// One space between, random blanks, or none where the tokens stay apart.

@@ -74,17 +74,20 @@ struct Pending {
 
 const SPAN: u16 = u16::MAX;
 
+/// The number of check 11.
+pub const NO_TREE: u8 = 11;
+
 /// The span just read has no tree.
 struct NoTree;
 
-struct Builder<'t> {
+struct Builder<'t, const N: usize> {
     tokens: &'t [Token],
-    nodes: &'t mut List<Node, MAX_TOKENS>,
+    nodes: &'t mut List<Node, N>,
     pending: List<Pending, { MAX_TOKENS + 1 }>,
     operand: Option<Operand>,
 }
 
-impl Builder<'_> {
+impl<const N: usize> Builder<'_, N> {
     #[inline(always)]
     fn last_node(&self) -> u16 {
         self.nodes.len().wrapping_sub(1) as u16
@@ -220,8 +223,9 @@ impl Builder<'_> {
 }
 
 /// Builds the tree of a text's spans, children before parents. An empty span
-/// has none; the caller builds none for a text without tokens.
-pub fn build(tokens: &[Token], nodes: &mut List<Node, MAX_TOKENS>) -> Result<(), Reject> {
+/// has none; the caller builds none for a text without tokens. `N` is room for
+/// a node to each token.
+pub fn build<const N: usize>(tokens: &[Token], nodes: &mut List<Node, N>) -> Result<(), Reject> {
     let mut builder = Builder { tokens, nodes, pending: List::new(), operand: None };
     builder.open(NodeKind::Block, 0, 0);
     // The opener of the first span without a tree, so far.
@@ -250,7 +254,7 @@ pub fn build(tokens: &[Token], nodes: &mut List<Node, MAX_TOKENS>) -> Result<(),
             // Spans inside this one start later; those around it start
             // earlier and may fail too, so go on behind it.
             let Some((opener, closer)) = builder.abandon() else {
-                return Err(Reject::new(11, 0));
+                return Err(Reject::new(NO_TREE, 0));
             };
             failed = Some(failed.map_or(opener, |first| first.min(opener)));
             builder.close();
@@ -260,6 +264,6 @@ pub fn build(tokens: &[Token], nodes: &mut List<Node, MAX_TOKENS>) -> Result<(),
     }
     match failed {
         None => Ok(()),
-        Some(opener) => Err(Reject::new(11, tokens[opener as usize].start as usize)),
+        Some(opener) => Err(Reject::new(NO_TREE, tokens[opener as usize].start as usize)),
     }
 }

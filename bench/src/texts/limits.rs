@@ -1,6 +1,6 @@
 //! Texts at each limit, just inside and just outside.
 
-use super::{Random, Tokens, join, quoted, random_token};
+use super::{Random, Tokens, join, quoted, random_token, split};
 
 pub fn text(random: &mut Random) -> Vec<u8> {
     let over = random.index(2);
@@ -20,10 +20,6 @@ pub fn text(random: &mut Random) -> Vec<u8> {
         tokens[at] = random_token(random);
     }
     join(random, &tokens)
-}
-
-fn split(text: &str) -> Tokens {
-    text.split_whitespace().map(|token| token.into()).collect()
 }
 
 /// A text of `len` bytes, most of them blanks or names.
