@@ -25,6 +25,11 @@ use Rattle.climb.specs.Searched.{spanMark}
 use Rattle.climb.proofs.Roles.{fit-fixity, fit-root}
 use Rattle.climb.proofs.Waiting.{mark-shows}
 
+-- No role is a number of a role, too.
+pub none-is-role : IsRole 0
+unfolding roleOf roleCode
+none-is-role = (refl, tt)
+
 module _ (R : List ℕ) (i l q k : ℕ) where
   at-front : eqb l 0 ≡ true → arrivesAt R i l q k ≡ fitsPrefix (roleOf (prefix R i)) (roleOf k)
   unfolding arrivesAt

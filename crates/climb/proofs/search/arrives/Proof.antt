@@ -3,9 +3,19 @@ use mathlib.Core.Path.{_≡_, refl, sym, _∙_}
 use native.Mathlib.Omega.{arith}
 use borrow.Author.Needs.{needs}
 use Rattle.grammar.proofs.Logic.{below}
-use Rattle.climb.proofs.Arrives.{prefix-none, prefix-untaken, prefix-by, infix-by, postfix-none, postfix-by}
+use mathlib.Core.Bool.{Bool}
+use mathlib.Core.Option.{some}
+use Prim.Native.Nat.{ℕ}
+use Rattle.grammar.specs.Operator.{Role}
+use Rattle.grammar.specs.SpanTree.{Position, onLeft, onRight, admits}
+use Rattle.rows.specs.Codes.{roleOf, IsRole}
+use Rattle.climb.proofs.Arrives.{none-is-role, prefix-none, prefix-untaken, prefix-by, infix-by, postfix-none, postfix-by}
 use Rattle.climb.proofs.search.arrives.Statement.{statement}
 use Rattle.climb.proofs.search.arrives.Tie as tie
+
+-- What a test of two roles tells.
+abbrev Tests : Position → ℕ → ℕ → Bool → Type 0
+Tests s role operand r = (q : Role) → roleOf role ≡ some q → r ≡ admits s q (roleOf operand)
 
 prefix-requires : tie.Need-prefix-requires
 prefix-requires c κs = search needs
@@ -20,13 +30,15 @@ admits-right-requires : tie.Need-admits-right-requires
 admits-right-requires c κs =
     let p = c .before .before in
     let s = p .before .before .before in
-    (s .pre .5, rw (p .prefix .ensures) (s .pre .1), omega arith)
+    let own : IsRole (p .prefix .result) = rw (p .prefix .ensures) (s .pre .1) in
+    (s .pre .5, search (none-is-role, own), omega arith)
 
 returns-3 : tie.Need-returns-3
 returns-3 c =
     let p = c .before .before .before in
     let f = p .prefix .ensures in
-    prefix-by _ _ _ _ _ _ (p .before .if1 .taken) (λ e. c .before .before .if2 .left (f ∙ e)) (c .before .if3 .left) (rw f at (c .admits-right .ensures))
+    let tested : Tests onRight (p .before .before .before .args .taking) (p .prefix .result) (c .admits-right .result) = c .admits-right .ensures in
+    prefix-by _ _ _ _ _ _ (p .before .if1 .taken) (λ e. c .before .before .if2 .left (f ∙ e)) (c .before .if3 .left) (rw f at tested)
 
 infix-requires : tie.Need-infix-requires
 infix-requires c κs = search needs
@@ -35,13 +47,14 @@ admits-left-requires : tie.Need-admits-left-requires
 admits-left-requires c κs =
     let p = c .before in
     let s = p .before .before .before in
-    (rw (p .«infix» .ensures) (s .pre .2), s .pre .4, omega arith)
+    (rw (p .«infix» .ensures) (s .pre .2), search (none-is-role, s .pre .4), omega arith)
 
 returns-4 : tie.Need-returns-4
 returns-4 c =
     let p = c .before .before in
     let f = p .«infix» .ensures in
-    infix-by _ _ _ _ _ _ (p .before .if1 .left) (λ e. c .before .if4 .taken (f ∙ e)) (rw f at (c .admits-left .ensures))
+    let tested : Tests onLeft (p .«infix» .result) (p .before .before .before .args .inner) (c .admits-left .result) = c .admits-left .ensures in
+    infix-by _ _ _ _ _ _ (p .before .if1 .left) (λ e. c .before .if4 .taken (f ∙ e)) (rw f at tested)
 
 postfix-requires : tie.Need-postfix-requires
 postfix-requires c κs = search needs
