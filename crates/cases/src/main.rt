@@ -1,4 +1,4 @@
 // Prints the listings of recorded cases: hexadecimal lines on standard input.
 fn main() {
-    hex_lines::run();
+    service_lines::print_listings();
 }

@@ -1,4 +1,4 @@
 // The same as `cases`, run on the examples of docs/RULES.md and docs/REFUSALS.md.
 fn main() {
-    hex_lines::run();
+    service_lines::print_listings();
 }

@@ -3,15 +3,15 @@ use mathlib.Core.Path.{_≡_, sym, ap}
 use mathlib.Core.List.{List}
 use Prim.Native.Nat.{ℕ, _≤_}
 use native.Mathlib.Omega.{arith}
-use lib.ListN.{length, take, replicate}
+use lib.ListN.{length, take}
 use lib.Seq.{length-sets, length-take-le}
 use Rattle.grammar.specs.Bytes.{Bytes}
 use Rattle.byte_strings.specs.Puts.{Put}
 use Rattle.listing.specs.Lines.{lineSize}
 
-module _ {line : List ℕ} {r : ℕ} {part : Bytes} where
-  pub put-within : Put (replicate lineSize 0) 0 part line r → r ≤ lineSize → r ≤ length line
-  put-within p h = omega (arith, h, ap length (p .stored), length-sets (replicate lineSize 0) 0 part)
+module _ {line line′ : List ℕ} {n r : ℕ} {part : Bytes} (p : Put line n part line′ r) (l : length line ≡ lineSize) (h : r ≤ lineSize) where
+  pub put-within : r ≤ length line′
+  put-within = omega (arith, ap length (p .stored), length-sets line n part)
 
-  pub put-taken : Put (replicate lineSize 0) 0 part line r → r ≤ lineSize → r ≡ length (take r line)
-  put-taken p h = sym (length-take-le r line (put-within p h))
+  pub put-taken : r ≡ length (take r line′)
+  put-taken = sym (length-take-le r line′ put-within)

@@ -18,10 +18,14 @@ mostNodes = 1024
 unfoldable pub spelled : ℕ → Bytes
 spelled n = decimalIn 20 n
 
+-- "`refused N at P`".
+unfoldable pub refusalText : Answer → Bytes
+refusalText a = bytes "refused " ++ spelled (a .number) ++ bytes " at " ++ spelled (a .offset)
+
 -- "prints the answer, .. then tidy length and text, or `refused N at P`": the word is `read` or `tidy`.
 unfoldable pub answerText : Bytes → Answer → Bytes
-answerText word a =
-    elim (eqb (a .number) 0) [
-      | true ↦ word ++ bytes " " ++ spelled (a .count)
-      | false ↦ bytes "refused " ++ spelled (a .number) ++ bytes " at " ++ spelled (a .offset)
-    ]
+answerText word a = elim (eqb (a .number) 0) [ true ↦ word ++ bytes " " ++ spelled (a .count) | false ↦ refusalText a ]
+
+-- The answer of a service that counts nothing.
+unfoldable pub outcomeText : Bytes → Answer → Bytes
+outcomeText word a = elim (eqb (a .number) 0) [ true ↦ word | false ↦ refusalText a ]

@@ -8,7 +8,7 @@ ghost use lib.ListN.{length, drop, getD};
 ghost use Rattle.grammar.specs.Nodes.{wordsPerNode};
 ghost use Rattle.grammar.specs.Listing.{field, kindNames, nodeLines};
 ghost use Rattle.byte_strings.specs.Puts.{Put};
-ghost use Rattle.listing.specs.Lines.{spelled, answerText, lineSize, mostNodes};
+ghost use Rattle.listing.specs.Lines.{spelled, refusalText, answerText, outcomeText, lineSize, mostNodes};
 
 // The bytes of a line, more than any has; the nodes of a table, enough for every text; and its words.
 const LINE: usize = 160;
@@ -65,6 +65,17 @@ fn put_kind(line: &mut [u8; LINE], n: usize, kind: u32) -> usize
     }
 }
 
+// Puts a refusal into a line.
+fn put_refusal(line: &mut [u8; LINE], a: Answer) -> usize
+    ensures { λ r. ⌜ Put (now (line .entry)) 0 (refusalText a) (now (line .exit)) r ⌝ }
+    ensures { λ r. ⌜ r < lineSize ⌝ }
+{
+    let n = put(line, 0, b"refused ");
+    let m = put_number(line, n, a.number as u64);
+    let k = put(line, m, b" at ");
+    put_number(line, k, a.offset as u64)
+}
+
 // Puts an answer into a line: `word` and the count, or the refusal.
 fn put_answer(line: &mut [u8; LINE], word: &[u8], a: Answer) -> usize
     requires { ⌜ length (now word) ≤ 4 ⌝ }
@@ -76,10 +87,19 @@ fn put_answer(line: &mut [u8; LINE], word: &[u8], a: Answer) -> usize
         let m = put(line, n, b" ");
         return put_number(line, m, a.count as u64);
     }
-    let n = put(line, 0, b"refused ");
-    let m = put_number(line, n, a.number as u64);
-    let k = put(line, m, b" at ");
-    put_number(line, k, a.offset as u64)
+    put_refusal(line, a)
+}
+
+// Puts the answer of a service that counts nothing into a line: `word`, or the refusal.
+fn put_outcome(line: &mut [u8; LINE], word: &[u8], a: Answer) -> usize
+    requires { ⌜ length (now word) ≤ 4 ⌝ }
+    ensures { λ r. ⌜ Put (now (line .entry)) 0 (outcomeText (now (word .entry)) a) (now (line .exit)) r ⌝ }
+    ensures { λ r. ⌜ r < lineSize ⌝ }
+{
+    if a.number == 0 {
+        return put(line, 0, word);
+    }
+    put_refusal(line, a)
 }
 
 // Puts the line of node number `i`, with its line end, into a line.
@@ -108,14 +128,30 @@ pub fn print_answer(word: &[u8], a: Answer)
     io::write_all(STDOUT_FILENO, &line[..n]);
 }
 
+// Writes the first `n` bytes of a line, and a line end.
+fn print_line(mut line: [u8; LINE], n: usize)
+    requires { ⌜ n < lineSize ⌝ }
+{
+    let m = put(&mut line, n, b"\n");
+    io::write_all(STDOUT_FILENO, &line[..m]);
+}
+
 // Writes an answer and a line end.
 fn print_answer_line(word: &[u8], a: Answer)
     requires { ⌜ length (now word) ≤ 4 ⌝ }
 {
     let mut line = [0u8; LINE];
     let n = put_answer(&mut line, word, a);
-    let m = put(&mut line, n, b"\n");
-    io::write_all(STDOUT_FILENO, &line[..m]);
+    print_line(line, n);
+}
+
+// Writes the answer of a service that counts nothing, and a line end.
+pub fn print_outcome(word: &[u8], a: Answer)
+    requires { ⌜ length (now word) ≤ 4 ⌝ }
+{
+    let mut line = [0u8; LINE];
+    let n = put_outcome(&mut line, word, a);
+    print_line(line, n);
 }
 
 // Writes the line of node number `i`.

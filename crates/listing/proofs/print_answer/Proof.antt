@@ -1,4 +1,5 @@
 -- The text of the answer stands in the line. Assumes nothing.
+use mathlib.Core.Path.{refl}
 use native.Mathlib.Omega.{arith}
 use borrow.Author.Needs.{needs}
 use Rattle.listing.proofs.Puts.{put-within, put-taken}
@@ -9,10 +10,10 @@ put-answer-requires : tie.Need-put-answer-requires
 put-answer-requires c κs = search needs
 
 array-share-prefix-line : tie.Need-array-share-prefix-line
-array-share-prefix-line c = put-within (c .put-answer .ensures .0) (omega arith)
+array-share-prefix-line c = put-within (c .put-answer .ensures .0) refl (omega arith)
 
 slice-aggregate-write-all : tie.Need-slice-aggregate-write-all
-slice-aggregate-write-all c = put-taken (c .before .put-answer .ensures .0) (omega arith)
+slice-aggregate-write-all c = put-taken (c .before .put-answer .ensures .0) refl (omega arith)
 
 write-all-requires : tie.Need-write-all-requires
 write-all-requires c κs = search needs

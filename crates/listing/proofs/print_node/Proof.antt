@@ -1,4 +1,5 @@
 -- The text of the node's line stands in the line. Assumes nothing.
+use mathlib.Core.Path.{refl}
 use borrow.Author.Needs.{needs}
 use Rattle.listing.proofs.Puts.{put-within, put-taken}
 use Rattle.listing.proofs.print_node.Statement.{statement}
@@ -8,10 +9,10 @@ put-node-requires : tie.Need-put-node-requires
 put-node-requires c κs = search needs
 
 array-share-prefix-line : tie.Need-array-share-prefix-line
-array-share-prefix-line c = put-within (c .put-node .ensures .0) (c .put-node .ensures .1)
+array-share-prefix-line c = put-within (c .put-node .ensures .0) refl (c .put-node .ensures .1)
 
 slice-aggregate-write-all : tie.Need-slice-aggregate-write-all
-slice-aggregate-write-all c = put-taken (c .before .put-node .ensures .0) (c .before .put-node .ensures .1)
+slice-aggregate-write-all c = put-taken (c .before .put-node .ensures .0) refl (c .before .put-node .ensures .1)
 
 write-all-requires : tie.Need-write-all-requires
 write-all-requires c κs = search needs

@@ -2,11 +2,11 @@
 use mathlib.Core.Path.{_≡_, refl}
 use mathlib.Core.List.{_++_}
 use borrow.Author.Tests.{eq-eqb, ne-eqb}
-use borrow.Author.Needs.{needs}
 use Rattle.grammar.specs.Bytes.{Bytes, bytes}
 use Rattle.reader.specs.declared.Answer.{Answer}
-use Rattle.listing.specs.Lines.{spelled, answerText}
+use Rattle.listing.specs.Lines.{spelled, refusalText, answerText}
 use Rattle.byte_strings.proofs.Puts.{put-then, put-same}
+use borrow.Author.Needs.{needs}
 use Rattle.listing.proofs.put_answer.Statement.{statement}
 use Rattle.listing.proofs.put_answer.Tie as tie
 
@@ -14,11 +14,9 @@ counted-text : (word : Bytes) (a : Answer) → a .number ≡ 0 → word ++ bytes
 unfolding answerText
 counted-text word a e = rw (eq-eqb (a .number) 0 e, answerText) refl
 
-refusal-text :
-    (word : Bytes) (a : Answer) → (a .number ≡ 0 → ⊥)
-    → bytes "refused " ++ spelled (a .number) ++ bytes " at " ++ spelled (a .offset) ≡ answerText word a
+refused-text : (word : Bytes) (a : Answer) → (a .number ≡ 0 → ⊥) → refusalText a ≡ answerText word a
 unfolding answerText
-refusal-text word a e = rw (ne-eqb (a .number) 0 e, answerText) refl
+refused-text word a e = rw (ne-eqb (a .number) 0 e, answerText) refl
 
 put-requires : tie.Need-put-requires
 put-requires c κs = search needs
@@ -43,38 +41,14 @@ returns c =
       search needs,
     )
 
-slice-aggregate-put-2 : tie.Need-slice-aggregate-put-2
-slice-aggregate-put-2 c = search needs
-
-put-requires-3 : tie.Need-put-requires-3
-put-requires-3 c κs = search needs
-
-cast-put-number : tie.Need-cast-put-number
-cast-put-number c = search needs
-
-put-number-requires-2 : tie.Need-put-number-requires-2
-put-number-requires-2 c κs = search needs
-
-slice-aggregate-put-3 : tie.Need-slice-aggregate-put-3
-slice-aggregate-put-3 c = search needs
-
-put-requires-4 : tie.Need-put-requires-4
-put-requires-4 c κs = search needs
-
-put-number-requires-3 : tie.Need-put-number-requires-3
-put-number-requires-3 c κs = search needs
+put-refusal-requires : tie.Need-put-refusal-requires
+put-refusal-requires c κs = search needs
 
 returns-2 : tie.Need-returns-2
 returns-2 c =
-    let d = c .before .before in
-    let e = d .before .before .before in
-    let f = e .before .before .before in
-    let t = f .before .before .before in
-    let s = t .before .before .before in (
-      put-same (refusal-text (s .args .word .now) (s .args .a) (t .if1 .left))
-          (put-then (put-then (put-then (f .put3 .ensures) (e .put-number2 .ensures .0)) (d .put4 .ensures)) (c .put-number3 .ensures .0)),
-      search needs,
-    )
+    let t = c .before .before in
+    let s = t .before .before .before in
+    (put-same (refused-text (s .args .word .now) (s .args .a) (t .if1 .left)) (c .put-refusal .ensures .0), search needs)
 
 pub put-answer-spec : {M : Type 1} → statement M
 put-answer-spec =
@@ -85,11 +59,5 @@ put-answer-spec =
     put-requires-2
     put-number-requires
     returns
-    slice-aggregate-put-2
-    put-requires-3
-    cast-put-number
-    put-number-requires-2
-    slice-aggregate-put-3
-    put-requires-4
-    put-number-requires-3
+    put-refusal-requires
     returns-2)

@@ -2,22 +2,22 @@
 use mathlib.Core.Path.{_≡_}
 use borrow.Author.Needs.{needs}
 use lib.ListN.{length}
-use Rattle.hex_lines.specs.Hexadecimal.{Sound}
-use Rattle.hex_lines.proofs.Characters.{fresh-sound}
-use Rattle.hex_lines.proofs.read_all.Statement.{statement}
-use Rattle.hex_lines.proofs.read_all.Tie as tie
+use Rattle.calls.specs.Calls.{Sound}
+use Rattle.calls.proofs.Steps.{new-sound}
+use Rattle.service_lines.proofs.read_all.Statement.{statement}
+use Rattle.service_lines.proofs.read_all.Tie as tie
 
 abbrev Inv-loop : tie.InvT-loop
-Inv-loop text₀ line₀ turns₀ text line turns = Sound line text × (length text ≡ length text₀)
+Inv-loop format text₀ call₀ turns₀ text call turns = Sound call text × (length text ≡ length text₀)
 
 abbrev μ-loop : tie.MeasureT-loop
-μ-loop text₀ line₀ turns₀ text line turns = turns
+μ-loop format text₀ call₀ turns₀ text call turns = turns
 
 new-requires : tie.Need-new-requires Inv-loop μ-loop
 new-requires c κs = search needs
 
 loop-holds : tie.Need-loop-holds Inv-loop μ-loop
-loop-holds c = (fresh-sound _ _ (c .new .ensures), search needs)
+loop-holds c = (new-sound (c .before .before .args .format) _ _ (c .new .ensures), search needs)
 
 read-some-requires : tie.Need-read-some-requires Inv-loop μ-loop
 read-some-requires c κs = search needs

@@ -3,15 +3,15 @@ use mathlib.Core.Path.{_≡_}
 use Prim.Native.Nat.{_-_}
 use borrow.Author.Needs.{needs}
 use lib.ListN.{length}
-use Rattle.hex_lines.specs.Hexadecimal.{Sound}
-use Rattle.hex_lines.proofs.take_all.Statement.{statement}
-use Rattle.hex_lines.proofs.take_all.Tie as tie
+use Rattle.calls.specs.Calls.{Sound}
+use Rattle.service_lines.proofs.take_all.Statement.{statement}
+use Rattle.service_lines.proofs.take_all.Tie as tie
 
 abbrev Inv-loop : tie.InvT-loop
-Inv-loop text₀ part l₀ i₀ text l i = Sound l text × (length text ≡ length text₀)
+Inv-loop format text₀ part l₀ i₀ text l i = Sound l text × (length text ≡ length text₀)
 
 abbrev μ-loop : tie.MeasureT-loop
-μ-loop text₀ part l₀ i₀ text l i = length part - i
+μ-loop format text₀ part l₀ i₀ text l i = length part - i
 
 loop-holds : tie.Need-loop-holds Inv-loop μ-loop
 loop-holds c = search needs

@@ -1,8 +1,8 @@
 -- A line end leaves a fresh line. Assumes nothing.
 use borrow.Author.Needs.{needs}
-use Rattle.hex_lines.proofs.Characters.{fresh-sound}
-use Rattle.hex_lines.proofs.take.Statement.{statement}
-use Rattle.hex_lines.proofs.take.Tie as tie
+use Rattle.calls.proofs.Steps.{new-sound}
+use Rattle.service_lines.proofs.take.Statement.{statement}
+use Rattle.service_lines.proofs.take.Tie as tie
 
 finish-requires : tie.Need-finish-requires
 finish-requires c κs = search needs
@@ -14,7 +14,7 @@ same-length : tie.Need-same-length
 same-length c = search needs
 
 returns : tie.Need-returns
-returns c = fresh-sound _ _ (c .new .ensures)
+returns c = new-sound (c .before .before .before .before .before .args .format) _ _ (c .new .ensures)
 
 next-requires : tie.Need-next-requires
 next-requires c κs = search needs
