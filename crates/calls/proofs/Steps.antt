@@ -1,12 +1,14 @@
 -- The cases of the definitions: a line with one more character.
-use mathlib.Core.Path.{_≡_, refl, sym}
+use mathlib.Core.Path.{_≡_, refl, sym, _∙_}
 use mathlib.Core.Bool.{Bool, true, false}
 use mathlib.Core.List.{List}
+use mathlib.Core.Option.{Option, none, some}
 use Prim.Native.Nat.{ℕ, _+_, _≤_, _<_}
+use native.Mathlib.Numerals.{add-one}
 use native.Mathlib.Omega.{arith}
 use borrow.Author.Tests.{eq-eqb, ne-eqb, lt-ltb, le-ltb}
-use lib.ListN.{length, take, set}
-use lib.Seq.{set-out}
+use lib.ListN.{length, take, drop, getD, set}
+use lib.Seq.{set-out, drop-cons, drop-length}
 use Rattle.grammar.specs.Bytes.{Bytes, bytes, same}
 use Rattle.hex_lines.specs.declared.lines.Line.{Line}
 use Rattle.hex_lines.specs.Hexadecimal as hex
@@ -19,7 +21,7 @@ use Rattle.calls.specs.declared.Call.{Call}
 use Rattle.calls.specs.declared.Call.the-variants.{Name, Start, Dash, Digits, Bad}
 use Rattle.calls.specs.declared.Request.{Request}
 use Rattle.calls.specs.declared.Request.the-variants.{Text, Nothing}
-use Rattle.calls.specs.Calls.{fresh, named, nameAfter, nameTextAfter, after, textAfter, requested, Sound}
+use Rattle.calls.specs.Calls.{fresh, serviceOf, start, named, nameAfter, nameTextAfter, after, textAfter, taken, textTaken, takenAll, textTakenAll, requested, Sound}
 
 pub new-sound : (f : Format) (text : List ℕ) (call : Call) → call ≡ fresh f → Sound call text
 new-sound Texts text call e = rw e (fresh-sound text hex.fresh refl)
@@ -28,20 +30,19 @@ new-sound Calls text call e = let h : 0 ≤ length text = omega arith in rw e h
 -- The service of a name.
 module _ (name : Bytes) where
   pub named-locate : same name (bytes "locate") ≡ true → Start Locate ≡ named name
-  unfolding named
-  named-locate e = rw (e, named) refl
+  unfolding serviceOf
+  named-locate e = rw (e, serviceOf) refl
 
   pub unnamed : same name (bytes "locate") ≡ false → Bad ≡ named name
-  unfolding named
-  unnamed e = rw (e, named) refl
+  unfolding serviceOf
+  unnamed e = rw (e, serviceOf) refl
 
   pub named-sound : (text : List ℕ) → Sound (named name) text
-  unfolding named
-  named-sound text = go (same name (bytes "locate"))
+  named-sound text = go (serviceOf name)
     where
-      go : (b : Bool) → Sound (elim b [ true ↦ Start Locate | false ↦ Bad ]) text
-      go true = tt
-      go false = tt
+      go : (o : Option Service) → Sound (start o) text
+      go none = tt
+      go (some s) = tt
 
 -- A character behind `n` characters of a name.
 module _ (text : List ℕ) (n b : ℕ) where
@@ -106,3 +107,28 @@ requested-within (Digits t l) text s k h e = go (hex.isText l) refl
     go true i = let z : l .kept ≡ k = cc (text-ended (Digits t l) t l refl i) in omega (arith, h .room)
     go false i = let z : _≡_ {A = ℕ} 0 1 = cc (no-text-ended (Digits t l) t l refl i) in omega arith
 requested-within Bad text s k h e = let z : _≡_ {A = ℕ} 0 1 = cc in omega arith
+
+-- A character of the input, and more of them from place `i` on.
+module _ (f : Format) (text : List ℕ) (call : Call) where
+  pub line-end : (b : ℕ) (r : Call) → r ≡ fresh f → b ≡ 10 → (r ≡ taken f text call b) × (text ≡ textTaken text call b)
+  unfolding taken textTaken
+  line-end b r e h = (e ∙ rw (eq-eqb b 10 h, taken) refl, rw (eq-eqb b 10 h, textTaken) refl)
+
+  pub line-goes-on
+      : (b : ℕ) (r : Call) (t : List ℕ) → (b ≡ 10 → ⊥) → r ≡ after text call b → t ≡ textAfter text call b
+      → (r ≡ taken f text call b) × (t ≡ textTaken text call b)
+  unfolding taken textTaken
+  line-goes-on b r t h p q = (p ∙ rw (ne-eqb b 10 h, taken) refl, q ∙ rw (ne-eqb b 10 h, textTaken) refl)
+
+  module _ (s : List ℕ) (i : ℕ) where
+    pub taken-step
+        : (r : Call) (t : List ℕ) → i < length s → r ≡ taken f text call (getD s i 0) → t ≡ textTaken text call (getD s i 0)
+        → (takenAll f text call (drop i s) ≡ takenAll f t r (drop (i + 1) s))
+        × (textTakenAll f text call (drop i s) ≡ textTakenAll f t r (drop (i + 1) s))
+    unfolding takenAll textTakenAll
+    taken-step r t h p q = rw (add-one i, drop-cons s i 0 h, p, q) (refl, refl)
+
+    pub taken-end
+        : i ≡ length s → (takenAll f text call (drop i s) ≡ call) × (textTakenAll f text call (drop i s) ≡ text)
+    unfolding takenAll textTakenAll
+    taken-end h = rw (h, drop-length s) (refl, refl)

@@ -1,6 +1,7 @@
 -- A line as a call of a service: a name, a space and a text in hexadecimal, with one more character.
 use mathlib.Core.Bool.{Bool, true, false, not}
-use mathlib.Core.List.{List}
+use mathlib.Core.List.{List, [], _∷_}
+use mathlib.Core.Option.{Option, none, some}
 use Prim.Native.Nat.{ℕ, _+_, _≤_}
 use lib.Dec.{eqb, ltb}
 use lib.ListN.{length, take, set}
@@ -28,9 +29,20 @@ begunBy (Dash s) = true
 begunBy (Digits s l) = l .begun
 begunBy Bad = true
 
--- The service of a name.
-unfoldable pub named : Bytes → Call
-named name = elim (same name (bytes "locate")) [ true ↦ Start Locate | false ↦ Bad ]
+-- The service of a name, and the longest name.
+unfoldable pub serviceOf : Bytes → Option Service
+serviceOf name = elim (same name (bytes "locate")) [ true ↦ some Locate | false ↦ none ]
+
+abbrev pub longestName : ℕ
+longestName = 6
+
+-- The line behind a name and a space.
+abbrev pub start : Option Service → Call
+start none = Bad
+start (some s) = Start s
+
+abbrev pub named : Bytes → Call
+named name = start (serviceOf name)
 
 -- A name of `n` characters, which stand at the front of the text, and one more character.
 unfoldable pub nameAfter : List ℕ → ℕ → ℕ → Call
@@ -55,6 +67,21 @@ textAfter text (Start s) b = elim (eqb b 45) [ true ↦ text | false ↦ hex.tex
 textAfter text (Dash s) b = text
 textAfter text (Digits s l) b = hex.textAfter text l b
 textAfter text Bad b = text
+
+-- The line of the last character, behind the characters of lines. A line end begins the next line.
+unfoldable pub taken : Format → List ℕ → Call → ℕ → Call
+taken f text c b = elim (eqb b 10) [ true ↦ fresh f | false ↦ after text c b ]
+
+unfoldable pub textTaken : List ℕ → Call → ℕ → List ℕ
+textTaken text c b = elim (eqb b 10) [ true ↦ text | false ↦ textAfter text c b ]
+
+unfoldable pub takenAll : Format → List ℕ → Call → Bytes → Call
+takenAll f text c [] = c
+takenAll f text c (b ∷ s) = takenAll f (textTaken text c b) (taken f text c b) s
+
+unfoldable pub textTakenAll : Format → List ℕ → Call → Bytes → List ℕ
+textTakenAll f text c [] = text
+textTakenAll f text c (b ∷ s) = textTakenAll f (textTaken text c b) (taken f text c b) s
 
 -- What a whole line asks for.
 abbrev pub requested : Call → Request

@@ -1,9 +1,10 @@
 -- Hexadecimal digits, and a line of them with one more character.
 use mathlib.Core.Bool.{Bool, true, false, _&&_}
-use mathlib.Core.List.{List}
+use mathlib.Core.List.{List, [], _∷_, _++_}
+use mathlib.Core.Option.{Option, none, some}
 use Prim.Native.Nat.{ℕ, _+_, _-_, _*_, _≤_, min}
 use lib.Dec.{leb, eqb}
-use lib.ListN.{length, set}
+use lib.ListN.{length, take, set}
 use Rattle.hex_lines.specs.declared.lines.Line.{Line}
 
 abbrev pub between : ℕ → ℕ → ℕ → Bool
@@ -48,3 +49,36 @@ isText l = elim (l .bad) [ true ↦ false | false ↦ eqb (l .high) 16 ]
 pub record Sound (l : Line) (text : List ℕ) : Type 0 where
   pub room : l .kept ≤ length text
   pub digit : l .high ≤ 16
+
+-- The text that a line gives if it ends here: the first bytes of `text`.
+unfoldable pub given : List ℕ → Line → Option (List ℕ)
+given text l = elim (isText l) [ true ↦ some (take (l .kept) text) | false ↦ none ]
+
+-- The same if the characters `s` come first.
+unfoldable pub givenBehind : List ℕ → Line → List ℕ → Option (List ℕ)
+givenBehind text l [] = given text l
+givenBehind text l (b ∷ s) = givenBehind (textAfter text l b) (after (length text) l b) s
+
+-- A byte before a text.
+abbrev pub cons : ℕ → Option (List ℕ) → Option (List ℕ)
+cons b none = none
+cons b (some s) = some (b ∷ s)
+
+-- Two characters before a text: a byte if both are digits.
+unfoldable pub withByte : ℕ → ℕ → Option (List ℕ) → Option (List ℕ)
+withByte a b s =
+    elim (eqb (digitValue a) 16) [
+      | true ↦ none
+      | false ↦ elim (eqb (digitValue b) 16) [ true ↦ none | false ↦ cons (digitValue a * 16 + digitValue b) s ]
+    ]
+
+-- The text that characters stand for, two digits to each byte: none if one is no digit, or the number of them is odd.
+unfoldable pub textOf : List ℕ → Option (List ℕ)
+textOf [] = some []
+textOf (a ∷ []) = none
+textOf (a ∷ b ∷ s) = withByte a b (textOf s)
+
+-- A text behind the bytes `front`, as far as there is room.
+abbrev pub behind : ℕ → List ℕ → Option (List ℕ) → Option (List ℕ)
+behind room front none = none
+behind room front (some s) = some (take room (front ++ s))

@@ -5,7 +5,8 @@ use calls::Request;
 use calls::Service;
 use libc::STDIN_FILENO;
 use libc::STDOUT_FILENO;
-ghost use Rattle.calls.specs.Calls.{Sound};
+ghost use mathlib.Core.Path.{_≡_};
+ghost use Rattle.calls.specs.Calls.{taken, textTaken, takenAll, textTakenAll, Sound};
 
 // Prints what a service gives for a text.
 fn answer(service: Service, text: &[u8]) {
@@ -30,6 +31,8 @@ fn finish(call: Call, text: &[u8])
 // Takes a character of the input. A line end finishes the line and begins the next one.
 fn take(format: Format, call: Call, text: &mut [u8], b: u8) -> Call
     requires { ⌜ Sound call (now text) ⌝ }
+    ensures { λ r. ⌜ r ≡ taken format (now (text .entry)) call b ⌝ }
+    ensures { λ r. ⌜ now (text .exit) ≡ textTaken (now (text .entry)) call b ⌝ }
     ensures { λ r. ⌜ Sound r (now (text .exit)) ⌝ }
 {
     if b == b'\n' {
@@ -42,6 +45,8 @@ fn take(format: Format, call: Call, text: &mut [u8], b: u8) -> Call
 // Takes the characters of a part of the input.
 fn take_all(format: Format, call: Call, text: &mut [u8], part: &[u8]) -> Call
     requires { ⌜ Sound call (now text) ⌝ }
+    ensures { λ r. ⌜ r ≡ takenAll format (now (text .entry)) call (now (part .entry)) ⌝ }
+    ensures { λ r. ⌜ now (text .exit) ≡ textTakenAll format (now (text .entry)) call (now (part .entry)) ⌝ }
     ensures { λ r. ⌜ Sound r (now (text .exit)) ⌝ }
 {
     let mut l = call;

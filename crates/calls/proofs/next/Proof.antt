@@ -53,13 +53,14 @@ same-length-2 c = search needs
 
 returns-3 : tie.Need-returns-3
 returns-3 c =
-    let a = c .before .before .before .before .before .before .before .before .before .before .args in
-    let e = c .before .before .before .before .before in
-    let d = c .before .before .next in
-    let h =
-    first-step (a .text .now) (a .call) (a .b) _ _ _ _ (c .before .before .before .before .before .before .before .call2 .given .1) (e .if1 .left) (c .before .before .before .before .new .ensures) (d .ensures .0) (d .ensures .1 .0)
-    in
-    (h .0, (h .1, d .ensures .1 .1))
+    let d = c .before .before in
+    let n = d .before .before in
+    let t = n .before in
+    let k = t .before .before .call2 .given .1 in
+    let a = t .before .before .before .before .before .args in
+    let e = d .next .ensures in
+    let h = first-step (a .text .now) (a .call) (a .b) _ _ _ _ k (t .if1 .left) (n .new .ensures) (e .0) (e .1 .0) in
+    (h .0, (h .1, e .1 .1))
 
 returns-4 : tie.Need-returns-4
 returns-4 c =

@@ -1,6 +1,6 @@
--- A line end leaves a fresh line. Assumes nothing.
+-- A line end leaves a fresh line; any other character is one more of the line. Assumes nothing.
 use borrow.Author.Needs.{needs}
-use Rattle.calls.proofs.Steps.{new-sound}
+use Rattle.calls.proofs.Steps.{new-sound, line-end, line-goes-on}
 use Rattle.service_lines.proofs.take.Statement.{statement}
 use Rattle.service_lines.proofs.take.Tie as tie
 
@@ -14,7 +14,11 @@ same-length : tie.Need-same-length
 same-length c = search needs
 
 returns : tie.Need-returns
-returns c = new-sound (c .before .before .before .before .before .args .format) _ _ (c .new .ensures)
+returns c =
+    let t = c .before .before .before in
+    let a = t .before .before .args in
+    let h = line-end (a .format) (a .text .now) (a .call) (a .b) _ (c .new .ensures) (t .if1 .taken) in
+    (h .0, (h .1, new-sound (a .format) _ _ (c .new .ensures)))
 
 next-requires : tie.Need-next-requires
 next-requires c κs = search needs
@@ -23,7 +27,12 @@ same-length-2 : tie.Need-same-length-2
 same-length-2 c = search needs
 
 returns-2 : tie.Need-returns-2
-returns-2 c = search needs
+returns-2 c =
+    let t = c .before .before .before .before in
+    let a = t .before .before .args in
+    let e = c .before .before .next .ensures in
+    let h = line-goes-on (a .format) (a .text .now) (a .call) (a .b) _ _ (t .if1 .left) (e .0) (e .1 .0) in
+    (h .0, (h .1, e .1 .1))
 
 pub take-spec : {M : Type 1} → statement M
 take-spec =
