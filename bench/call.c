@@ -1,4 +1,4 @@
-/* Calls one service once on standard input: `read` or `canonicalize`. For bench/callgrind, which counts the instructions of the call. */
+/* Calls one service once on standard input: `read`, `canonicalize` or `locate`. For bench/callgrind, which counts the instructions of the call. */
 #include "../c/rule_reader.h"
 
 #include <stdio.h>
@@ -14,6 +14,8 @@ int main(int argc, char **argv)
     size_t length = fread(text, 1, sizeof text, stdin);
     if (argc == 2 && strcmp(argv[1], "canonicalize") == 0)
         answer = rule_canonicalize(text, length, buffer, RULE_BUFFER_BYTES);
+    else if (argc == 2 && strcmp(argv[1], "locate") == 0)
+        answer = rule_locate(text, length);
     else
         answer = rule_read(text, length, nodes, RULE_TABLE_WORDS);
     printf("%d %zu\n", answer.number, answer.offset);

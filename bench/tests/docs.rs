@@ -3,18 +3,25 @@
 //!
 //! An example is two fenced blocks: the text, in a block `rule` as it is or in
 //! a block `long` in parts, then a block `listing` with what is printed. A
-//! listing may be shown from the first line behind its nodes on.
+//! listing may be shown from the first line behind its nodes on. Where the text
+//! is refused with 11, and only there, a block `located` follows with the
+//! answer of `locate`; these are calls of program `services`.
 
 use rule_bench::listing;
+use rule_bench::reader::locate;
 use std::fs::read_to_string;
 
 const DOCUMENTS: [&str; 2] = ["docs/RULES.md", "docs/REFUSALS.md"];
+
+/// The calls of program `services` that are no examples come first.
+const RECORDED_CALLS: usize = 1183;
 
 struct Example {
     /// The document, and the line where the text begins.
     at: String,
     text: Vec<u8>,
     shown: String,
+    located: Option<String>,
 }
 
 /// A file of the repository.
@@ -54,18 +61,25 @@ fn part(line: &str) -> Option<String> {
 fn examples(path: &str) -> Vec<Example> {
     let document = file(path);
     let blocks = blocks(path, &document);
-    let pairs = blocks.chunks(2).map(|pair| {
-        let [(at, word, text), (_, "listing", shown)] = pair else {
-            panic!("{}: a text and a listing take turns", pair[0].0);
+    let mut rest = &blocks[..];
+    let mut examples = Vec::new();
+    while let [(at, word, text), behind @ ..] = rest {
+        let [(_, "listing", shown), behind @ ..] = behind else {
+            panic!("{at}: no listing behind the text");
         };
+        let located = match behind {
+            [(_, "located", answer), ..] => Some(answer.join("\n")),
+            _ => None,
+        };
+        rest = &behind[usize::from(located.is_some())..];
         let text = match *word {
             "rule" => text.join("\n"),
             "long" => text.iter().map(|line| part(line).unwrap_or_else(|| panic!("{at}: {line}"))).collect(),
             _ => panic!("{at}: neither rule nor long"),
         };
-        Example { at: at.clone(), text: text.into(), shown: shown.join("\n") + "\n" }
-    });
-    pairs.collect()
+        examples.push(Example { at: at.clone(), text: text.into(), shown: shown.join("\n") + "\n", located });
+    }
+    examples
 }
 
 /// What a listing has behind its nodes.
@@ -82,13 +96,30 @@ fn examples_are_cases() {
     let (texts, listings) = (file("crates/documented/stdin"), file("crates/documented/stdout"));
     let (texts, listings): (Vec<&str>, _) = (texts.lines().collect(), listing::split(&listings));
     let examples: Vec<Example> = DOCUMENTS.into_iter().flat_map(examples).collect();
-    for (number, Example { at, text, shown }) in examples.iter().enumerate() {
+    for (number, Example { at, text, shown, .. }) in examples.iter().enumerate() {
         let line = listing::to_hex(text);
         assert_eq!(texts.get(number), Some(&line.as_str()), "{at}: line {} of stdin", number + 1);
         let printed = listings.get(number).unwrap_or_else(|| panic!("{at}: no listing in stdout"));
         assert!(shown == printed || shown == behind_nodes(printed), "{at}\nshown\n{shown}printed\n{printed}");
     }
     assert_eq!((texts.len(), listings.len()), (examples.len(), examples.len()));
+}
+
+/// An example refused with 11 has the answer of `locate`, which is that of this
+/// reader, and is a call of program `services` behind the recorded ones.
+#[test]
+fn located_examples_are_calls() {
+    let (calls, answers) = (file("crates/services/stdin"), file("crates/services/stdout"));
+    let mut behind = calls.lines().zip(answers.lines()).skip(RECORDED_CALLS);
+    for Example { at, text, shown, located } in DOCUMENTS.into_iter().flat_map(examples) {
+        assert_eq!(located.is_some(), shown.starts_with("refused 11 at "), "{at}");
+        let Some(located) = located else { continue };
+        let answer = locate(&text);
+        assert_eq!(located, format!("refused {} at {}", answer.number, answer.offset), "{at}");
+        let call = format!("locate {}", listing::to_hex(&text));
+        assert_eq!(behind.next(), Some((call.as_str(), located.as_str())), "{at}");
+    }
+    assert_eq!(behind.next(), None);
 }
 
 /// The listings of the cases are those of this reader.

@@ -19,7 +19,6 @@ use Rattle.calls.specs.declared.Format.{Format}
 use Rattle.calls.specs.declared.Format.the-variants.{Texts, Calls}
 use Rattle.calls.specs.declared.Call.{Call}
 use Rattle.calls.specs.declared.Call.the-variants.{Name, Start, Dash, Digits, Bad}
-use Rattle.calls.specs.declared.Request.{Request}
 use Rattle.calls.specs.declared.Request.the-variants.{Text, Nothing}
 use Rattle.calls.specs.Calls.{fresh, serviceOf, start, named, nameAfter, nameTextAfter, after, textAfter, taken, textTaken, takenAll, textTakenAll, requested, Sound}
 

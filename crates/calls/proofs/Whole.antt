@@ -16,7 +16,7 @@ use Rattle.hex_lines.specs.declared.lines.Line.{Line}
 use Rattle.hex_lines.specs.Hexadecimal as hex
 use Rattle.hex_lines.proofs.Whole as hexes
 use Rattle.calls.specs.declared.Service.{Service}
-use Rattle.calls.specs.declared.Service.the-variants.{Listing, Locate}
+use Rattle.calls.specs.declared.Service.the-variants.{Listing}
 use Rattle.calls.specs.declared.Format.{Format}
 use Rattle.calls.specs.declared.Format.the-variants.{Texts, Calls}
 use Rattle.calls.specs.declared.Call.{Call}
@@ -35,7 +35,7 @@ use Rattle.calls.specs.Asked.{
   lineAsks,
   firstBytes,
 }
-use Rattle.calls.proofs.Steps.{space-after, kept-after, full-after, name-step, dash-step, first-step, text-ended, no-text-ended}
+use Rattle.calls.proofs.Steps.{space-after, kept-after, full-after, dash-step, first-step, text-ended, no-text-ended}
 
 -- One character more.
 step

@@ -3,16 +3,15 @@ use mathlib.Core.Path.{_≡_, refl, sym, ap, _∙_}
 use mathlib.Core.Bool.{Bool, true, false, not}
 use mathlib.Core.List.{List}
 use mathlib.Core.Option.{Option, none, some}
-use Prim.Native.Nat.{ℕ, suc, _≤_}
+use Prim.Native.Nat.{ℕ}
 use native.Mathlib.Omega.{arith}
 use lib.Dec.{eqb}
 use borrow.Author.Tests.{eq-eqb, ne-eqb}
 use Rattle.grammar.specs.Bytes.{Bytes}
 use Rattle.grammar.specs.Token.{symbol}
 use Rattle.grammar.specs.Operator.{Prefix, Infix, Postfix, right, Role, Table, role, isSome}
-use Rattle.grammar.specs.SpanTree.{SpanTree, missing, present, fixityBy, roleOfFixity, root, rootPrecedence, isRight, onLeft, onRight, admitsEqual, admits}
+use Rattle.grammar.specs.SpanTree.{SpanTree, missing, present, fixityBy, root, rootPrecedence, isRight, onLeft, onRight, admits}
 use Rattle.grammar.specs.Climb.{firstRole, leftRole, Stack, empty, waiting}
-use Rattle.grammar.proofs.Logic.{clash}
 use Rattle.grammar.proofs.StackItems.{absent-missing}
 use Rattle.grammar.specs.Climb.{taking, takes, admitsPrefix, bears, fitsLeft, fitsBelow, arrives}
 use Rattle.grammar.proofs.ClimbInvariant.{keeps-admits}

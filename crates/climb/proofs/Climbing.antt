@@ -3,15 +3,13 @@
 use mathlib.Core.Path.{_≡_, refl, sym, ap, _∙_}
 use mathlib.Core.Bool.{true, false}
 use mathlib.Core.Logic.{_⊎_, inl, inr}
-use mathlib.Core.List.{List, [], _∷_}
+use mathlib.Core.List.{List, []}
 use mathlib.Core.Option.{Option, none, some}
 use Prim.Native.Nat.{ℕ, suc, _+_, _≤_, _<_}
 use native.Mathlib.Omega.{arith}
-use lib.ListN.{length}
 use Rattle.grammar.specs.Bytes.{Bytes}
-use Rattle.grammar.specs.Token.{symbol}
 use Rattle.grammar.specs.Operator.{Role, Table, role}
-use Rattle.grammar.specs.Span.{Item, single, pair, scope, itemTokens, items}
+use Rattle.grammar.specs.Span.{Item, single, pair, scope, items}
 use Rattle.grammar.specs.SpanTree.{SpanTree, missing, operand, apply, present, roleOver, root}
 use Rattle.grammar.specs.Climb.{Stack, empty, waiting, pushed, closed}
 use Rattle.grammar.specs.Climb.{takes, arrives, postfixLast, finish, Ending, stops, ending, climbFrom, unread, search}
@@ -31,7 +29,7 @@ use Rattle.rows.specs.InUse.{roleBeside}
 use Rattle.climb.proofs.Roles.{fit-over, fit-root, gives-same, gives-last}
 use Rattle.climb.proofs.Pass.{Next, last, comes, pass-operand, pass-untaken, pass-two, pass-waits, pass-refuses, pushed-waits, pass-closes, AllTake, arrives-takes, final-left}
 use Rattle.climb.proofs.Coming.{OperatorAt, operand-at, operator-at}
-use Rattle.climb.proofs.Waiting.{width-missing, width-operand, width-apply, mark-within, mark-most, Same, Built, WaitsAt, Waits, waits-behind, built-kept, waits-kept, over-code, taking-code}
+use Rattle.climb.proofs.Waiting.{width-missing, width-operand, width-apply, mark-most, Same, Built, WaitsAt, Waits, waits-behind, built-kept, waits-kept, over-code, taking-code}
 use Rattle.climb.proofs.Arrives.{widest, TakingCode, taking-is-role, untaken, taken, roles-are, arrives-same}
 
 -- The innermost operator that waits does not give way, if one waits.

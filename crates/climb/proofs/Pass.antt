@@ -1,6 +1,6 @@
 -- The pass over a span's items, step by step as the search takes it.
 use mathlib.Core.Path.{_≡_, refl, sym, ap, _∙_}
-use mathlib.Core.Bool.{Bool, true, false, _&&_}
+use mathlib.Core.Bool.{Bool, true, false}
 use mathlib.Core.List.{List, [], _∷_}
 use mathlib.Core.Option.{Option, none, some}
 use Prim.Native.Nat.{ℕ, suc, _≤_, _+_}
@@ -26,13 +26,11 @@ use Rattle.grammar.specs.Climb.{
   advance,
   postfixLast,
   finish,
-  Ending,
-  found,
   stops,
   ending,
   climbFrom,
 }
-use Rattle.grammar.proofs.Logic.{impossible, clash}
+use Rattle.grammar.proofs.Logic.{clash}
 use Rattle.grammar.proofs.StackItems.{absent-missing}
 use Rattle.grammar.proofs.ClimbReached.{at}
 use Rattle.rows.specs.Codes.{Bounded, arrivalOf, givesWayTo}

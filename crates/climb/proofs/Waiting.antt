@@ -13,7 +13,6 @@ use Rattle.grammar.specs.Operator.{Table}
 use Rattle.grammar.specs.Span.{Item, single, pair, scope, itemTokens, allItemTokens}
 use Rattle.grammar.specs.SpanTree.{SpanTree, missing, operand, apply, yield, present, fixity, roleOver}
 use Rattle.grammar.specs.Climb.{Stack, empty, waiting}
-use Rattle.grammar.proofs.Logic.{impossible}
 use Rattle.grammar.proofs.ItemsNested.{append-tokens}
 use Rattle.rows.specs.Fields.{field, arrival, left, right}
 use Rattle.rows.specs.Codes.{roleCode}
@@ -53,12 +52,6 @@ unfolding spanMark present
 mark-shows i missing = refl
 mark-shows i (operand x) = eqb·suc-zero i
 mark-shows i (apply l m r) = eqb·suc-zero (i + width l)
-
-pub mark-within : (i : ℕ) (s : SpanTree) (a : ℕ) → spanMark i s ≡ suc a → (i ≤ a) × (a < i + width s)
-unfolding spanMark
-mark-within i missing a e = impossible cc
-mark-within i (operand x) a e = (omega arith, omega (arith, width-operand x, item-tokens x))
-mark-within i (apply l m r) a e = (omega arith, omega (arith, width-apply l m r))
 
 pub mark-most : (i : ℕ) (s : SpanTree) → spanMark i s ≤ i + width s
 unfolding spanMark

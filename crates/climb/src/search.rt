@@ -7,11 +7,11 @@ use rows::roles as roles_row;
 use rows::roots as roots_row;
 use rows::tokens as tokens_row;
 ghost use mathlib.Core.Path.{_≡_};
-ghost use Prim.Native.Nat.{ℕ, suc, _≤_, _<_};
+ghost use Prim.Native.Nat.{_<_};
 ghost use Rattle.grammar.specs.Bytes.{Bytes};
 ghost use Rattle.grammar.specs.Operator.{Table};
 ghost use Rattle.rows.specs.Fields.{Within, kind, closer, prefix, infixed, postfix};
-ghost use Rattle.rows.specs.Codes.{IsRole, roleOf};
+ghost use Rattle.rows.specs.Codes.{IsRole};
 ghost use Rattle.climb.specs.Beside.{itemEnd, arrivesAt};
 ghost use Rattle.climb.specs.Searched.{Rows, InForce, Searched};
 

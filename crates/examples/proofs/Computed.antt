@@ -44,7 +44,7 @@ unfolding Answer.tokensOf Answer.startsOf Answer.offsetOf Answer.spanOffset Answ
     Canonical.stripDeclaration Canonical.writtenName Canonical.writtenAtom Canonical.fitted Canonical.canonical Canonical.spaced
     Canonical.joinTokens Canonical.canonicalText Climb.symbolAt Climb.firstRole Climb.leftRole Climb.givesWay Climb.pushed
     Climb.closed Climb.taking Climb.takes Climb.admitsPrefix Climb.bears Climb.fitsLeft Climb.fitsBelow Climb.arrives Climb.arrived Climb.operandStep
-    Climb.operatorStep Climb.step Climb.postfixLast Climb.final Climb.outcome Climb.pass Climb.start Climb.search Climb.treeFound Climb.climb Coded.kindOf Coded.tokenOf
+    Climb.operatorStep Climb.advance Climb.postfixLast Climb.finish Climb.ending Climb.climbFrom Climb.unread Climb.search Climb.treeFound Climb.climb Coded.kindOf Coded.tokenOf
     Declaration.valueFrom Declaration.value Declaration.declare Declaration.declareAll
     Declaration.startDeclarations Declaration.startTable Declaration.fixityWord Declaration.associativityWord
     Declaration.declarationTokens Declaration.allTokens Declaration.isPrecedence Declaration.symbolOf Declaration.precedenceOf

@@ -2,14 +2,12 @@
 use mathlib.Core.Path.{_≡_, refl, sym, _∙_}
 use mathlib.Core.Bool.{Bool, true, false}
 use mathlib.Core.Option.{Option, none, some}
-use Prim.Native.Nat.{ℕ}
-use lib.Dec.{ltb, eqb}
 use Rattle.grammar.specs.Bytes.{Bytes}
-use Rattle.grammar.specs.Operator.{Fixity, Prefix, Infix, Postfix, Associativity, left, right, non, Role, Table, role, Conditions, Permitted, apart, conditions}
+use Rattle.grammar.specs.Operator.{Prefix, Infix, Postfix, Associativity, left, right, non, Role, Table, role, Conditions, Permitted, apart, conditions}
 use Rattle.grammar.specs.SpanTree.{fixityBy, roleOfFixity, isLeft, onLeft, admitsEqual, admits}
 use Rattle.grammar.specs.Climb.{firstRole, leftRole}
 use Rattle.grammar.proofs.Logic.{impossible}
-use Rattle.grammar.proofs.Unambiguous.{Unambiguous, permitted-unambiguous}
+use Rattle.grammar.proofs.Unambiguous.{Unambiguous}
 
 abbrev pub OneSide : Table → Type 0
 OneSide T =

@@ -1,24 +1,20 @@
 -- COPIED from grammar/proofs/ClimbComplete.antt, which keeps these to itself; only `pub` is new.
 -- The pass from left to right finds each admitted tree. Over the tree's items it leaves the tree's right spine waiting: an operator closes
 -- its left operand, which gives way to it, and no more, since what waits below keeps it. So a span has at most one tree.
-use mathlib.Core.Path.{_≡_, refl, sym, ap, subst, _∙_}
+use mathlib.Core.Path.{_≡_, refl, sym, subst, _∙_}
 use mathlib.Core.Bool.{Bool, true, false, not}
-use mathlib.Core.List.{List, [], _∷_, _++_, append-assoc, append-nil}
 use mathlib.Core.Option.{Option, none, some}
 use Prim.Native.Nat.{ℕ, _≤_}
 use native.Mathlib.Omega.{arith}
 use lib.Dec.{ltb, eqb}
 use borrow.Author.Tests.{le-ltb, ltb-false, eqb-true, eq-eqb, not-true}
 use Rattle.grammar.specs.Bytes.{Bytes}
-use Rattle.grammar.specs.Token.{symbol}
-use Rattle.grammar.specs.Operator.{Prefix, Infix, Postfix, Role, Table, role, inForce}
-use Rattle.grammar.specs.Span.{Item, single}
+use Rattle.grammar.specs.Operator.{Prefix, Infix, Postfix, Role, Table, role}
 use Rattle.grammar.specs.SpanTree.{
   SpanTree,
   missing,
   operand,
   apply,
-  yield,
   present,
   fixityBy,
   fixity,
@@ -31,14 +27,10 @@ use Rattle.grammar.specs.SpanTree.{
   onLeft,
   onRight,
   admitsEqual,
-  isOperandAtom,
-  isOperand,
   Admitted,
-  IsSpanTree,
 }
 use Rattle.grammar.specs.Climb.{
   firstRole,
-  symbolAt,
   Stack,
   empty,
   waiting,
@@ -48,7 +40,6 @@ use Rattle.grammar.specs.Climb.{
   closed,
 }
 use Rattle.grammar.proofs.Logic.{and-right, clash}
-use Rattle.grammar.proofs.Operators.{has-role}
 use Rattle.grammar.proofs.AdmittingRole.{AdmittingRole, admitting-role, admitting-root, admits-cases}
 use Rattle.grammar.proofs.Unambiguous.{Keeps, Unambiguous}
 use Rattle.grammar.proofs.StackItems.{absent-missing}

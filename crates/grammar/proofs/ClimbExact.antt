@@ -11,7 +11,7 @@ use lib.ListN.{length, length-append}
 use Rattle.grammar.specs.Operator.{Table, Permitted, isSome}
 use Rattle.grammar.specs.Span.{Item, itemTokens, allItemTokens}
 use Rattle.grammar.specs.SpanTree.{SpanTree, missing, apply, yield, present, roleOver, IsSpanTree}
-use Rattle.grammar.specs.Continuation.{HasTree, Continuable, LostWith, LostBehind}
+use Rattle.grammar.specs.Continuation.{LostWith, LostBehind}
 use Rattle.grammar.specs.Climb.{
   Stack,
   empty,

@@ -1,16 +1,14 @@
 -- What holds of what waits: each operator that has come fits, so that closing needs no test, and what has come can be continued.
-use mathlib.Core.Path.{_≡_, refl, sym, ap, subst, _∙_}
-use mathlib.Core.Bool.{Bool, true, false, _&&_, not}
-use mathlib.Core.Logic.{_⊎_, inl, inr}
-use mathlib.Core.List.{List, [], _∷_, _++_, append-assoc, append-nil}
+use mathlib.Core.Path.{_≡_, refl, sym, subst, _∙_}
+use mathlib.Core.Bool.{Bool, true, false}
+use mathlib.Core.List.{List, [], _∷_, _++_, append-nil}
 use mathlib.Core.Option.{Option, none, some}
-use Prim.Native.Nat.{ℕ, _≤_}
 use native.Mathlib.Omega.{arith}
 use lib.Dec.{ltb, eqb}
-use borrow.Author.Tests.{le-ltb, lt-ltb, ltb-false, ltb-true, eqb-true, eq-eqb, not-true}
+use borrow.Author.Tests.{lt-ltb, ltb-false, eq-eqb}
 use Rattle.grammar.specs.Bytes.{Bytes}
 use Rattle.grammar.specs.Token.{symbol, number}
-use Rattle.grammar.specs.Operator.{Fixity, Prefix, Infix, Postfix, Role, Table, role, isSome}
+use Rattle.grammar.specs.Operator.{Fixity, Prefix, Role, Table, role, isSome}
 use Rattle.grammar.specs.Span.{Item, single}
 use Rattle.grammar.specs.SpanTree.{
   SpanTree,
@@ -25,10 +23,7 @@ use Rattle.grammar.specs.SpanTree.{
   roleOver,
   root,
   rootPrecedence,
-  isLeft,
   isRight,
-  rightRoot,
-  Position,
   onLeft,
   onRight,
   admitsEqual,
@@ -56,7 +51,7 @@ use Rattle.grammar.specs.Climb.{
   postfixLast,
   finish,
 }
-use Rattle.grammar.proofs.Logic.{and-left, and-right, and-intro, clash, impossible}
+use Rattle.grammar.proofs.Logic.{and-intro, clash, impossible}
 use Rattle.grammar.proofs.AdmittingRole.{admits-cases}
 use Rattle.grammar.proofs.Unambiguous.{Keeps, Unambiguous}
 use Rattle.grammar.proofs.Positive.{Positive}

@@ -1,14 +1,14 @@
 -- What the pass does over the items of an admitted tree: it leaves the tree's right spine waiting, and at the end finds the tree.
-use mathlib.Core.Path.{_≡_, refl, sym, ap, subst, _∙_}
+use mathlib.Core.Path.{_≡_, refl, sym, ap, _∙_}
 use mathlib.Core.Bool.{Bool, true, false}
-use mathlib.Core.List.{List, [], _∷_, _++_, append-assoc, append-nil}
-use mathlib.Core.Option.{Option, none, some}
-use Prim.Native.Nat.{ℕ, _≤_, _+_}
+use mathlib.Core.List.{List, [], _∷_, _++_}
+use mathlib.Core.Option.{some}
+use Prim.Native.Nat.{ℕ, _+_}
 use native.Mathlib.Omega.{arith}
 use lib.ListN.{length, length-append}
 use Rattle.grammar.specs.Bytes.{Bytes}
 use Rattle.grammar.specs.Token.{symbol}
-use Rattle.grammar.specs.Operator.{Prefix, Infix, Postfix, Role, Table, role, inForce, isSome}
+use Rattle.grammar.specs.Operator.{Prefix, Role, Table, role, inForce, isSome}
 use Rattle.grammar.specs.Span.{Item, single, itemTokens, allItemTokens}
 use Rattle.grammar.specs.SpanTree.{
   SpanTree,
@@ -22,14 +22,11 @@ use Rattle.grammar.specs.SpanTree.{
   roleOver,
   root,
   rootPrecedence,
-  onLeft,
-  admits,
   isOperandAtom,
   isOperand,
   Admitted,
-  IsSpanTree,
 }
-use Rattle.grammar.specs.Climb.{symbolAt, Stack, empty, waiting, leftRole, pushed, closed}
+use Rattle.grammar.specs.Climb.{symbolAt, Stack, empty, waiting, closed}
 use Rattle.grammar.specs.Climb.{
   Progress,
   taking,
@@ -45,21 +42,15 @@ use Rattle.grammar.specs.Climb.{
   advance,
   postfixLast,
   finish,
-  Ending,
-  found,
-  stops,
-  ending,
   climbFrom,
-  unread,
-  search,
 }
-use Rattle.grammar.proofs.Logic.{clash, impossible}
+use Rattle.grammar.proofs.Logic.{impossible}
 use Rattle.grammar.proofs.Operators.{has-role}
 use Rattle.grammar.proofs.AdmittingRole.{AdmittingRole, admitting-role, admitting-root}
-use Rattle.grammar.proofs.Unambiguous.{Keeps, Unambiguous}
+use Rattle.grammar.proofs.Unambiguous.{Unambiguous}
 use Rattle.grammar.proofs.StackItems.{absent-missing}
 use Rattle.grammar.proofs.ClimbComplete.{Bears, bears-lower, left-gives, keeps-right, role-by, left-role, push, spine, spineEnd}
-use Rattle.grammar.proofs.Arriving.{OneSide, coming, Alike, admits-alike, comes-alike}
+use Rattle.grammar.proofs.Arriving.{OneSide, coming, admits-alike, comes-alike}
 use Rattle.grammar.proofs.ClimbInvariant.{keeps-admits}
 
 -- The pass goes from one state to another over some items.

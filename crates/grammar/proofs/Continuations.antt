@@ -1,6 +1,6 @@
 -- Under any table: items can be continued exactly if they have a tree, or have one with one operand more; and items are lost behind one of
 -- their fronts at most. No search is spoken of.
-use mathlib.Core.Path.{_≡_, refl, sym, ap, _∙_}
+use mathlib.Core.Path.{_≡_, sym, ap, _∙_}
 use mathlib.Core.Bool.{true}
 use mathlib.Core.Logic.{_⊎_, inl, inr, _↔_}
 use mathlib.Core.List.{List, [], _∷_, _++_, append-assoc, append-nil}

@@ -16,7 +16,6 @@ use Rattle.grammar.specs.Bytes.{Bytes}
 use Rattle.grammar.specs.Token.{Token}
 use Rattle.grammar.specs.Outcome.{Outcome, refused, passed, andThen, placed}
 use Rattle.grammar.specs.Scan.{Placed, scan}
-use Rattle.grammar.specs.Operator.{Permitted}
 use Rattle.grammar.specs.Declaration.{startTable}
 use Rattle.grammar.specs.Nesting.{nesting}
 use Rattle.grammar.specs.SpanTree.{SpanTree}
@@ -33,7 +32,6 @@ use Rattle.grammar.proofs.ReadingTrees.{IsReading, of-tree, of-none, re
 use Rattle.grammar.proofs.Lists.{all-right, all-member}
 use Rattle.grammar.proofs.ClimbExact.{climb-sound, climb-complete}
 use Rattle.grammar.proofs.Operators.{positive-start}
-use Rattle.grammar.proofs.Unambiguous.{permitted-unambiguous}
 use Rattle.grammar.proofs.SpanOrder.{first-by-start}
 use Rattle.grammar.proofs.ItemLists.{andThen-passed, andThen-refused}
 use Rattle.grammar.proofs.RefusalNumbers.{scan-number, nesting-number, blocks-number}

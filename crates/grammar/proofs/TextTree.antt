@@ -15,7 +15,6 @@ use Rattle.grammar.specs.Tree.{Tree, nothing, leaf, bracket, block, node
 use Rattle.grammar.specs.Climb.{climb}
 use Rattle.grammar.specs.Blocks.{bodyTable, underBracket, underBlock, underOperator, hangItem, hang, hangFound, treeIn, treeOf}
 use Rattle.grammar.proofs.CheckedTrees.{InnerChecked, IsCheckedTree}
-use Rattle.grammar.proofs.Unambiguous.{permitted-unambiguous}
 use Rattle.grammar.proofs.ClimbExact.{climb-complete}
 use Rattle.grammar.proofs.Items.{items-flat}
 use Rattle.grammar.proofs.Declarations.{declarations-of}

@@ -1,16 +1,16 @@
 -- A tree cut behind any of its items: what stands before the cut has a tree, or has one with one operand behind it.
-use mathlib.Core.Path.{_≡_, refl, sym, ap, _∙_}
-use mathlib.Core.Bool.{Bool, true, false, _&&_, true≢false}
+use mathlib.Core.Path.{_≡_, refl, sym, _∙_}
+use mathlib.Core.Bool.{Bool, true, false}
 use mathlib.Core.Logic.{_⊎_, inl, inr}
-use mathlib.Core.List.{List, [], _∷_, _++_, append-assoc, append-nil}
-use mathlib.Core.Option.{Option, none, some}
+use mathlib.Core.List.{List, [], _∷_, _++_, append-assoc}
+use mathlib.Core.Option.{Option, some}
 use Prim.Native.Nat.{ℕ, _≤_}
 use native.Mathlib.Omega.{arith}
-use lib.Dec.{ltb, eqb}
-use borrow.Author.Tests.{lt-ltb, ltb-false, eq-eqb}
+use lib.Dec.{ltb}
+use borrow.Author.Tests.{ltb-false, eq-eqb}
 use Rattle.grammar.specs.Bytes.{Bytes}
 use Rattle.grammar.specs.Token.{symbol}
-use Rattle.grammar.specs.Operator.{Role, Table, role}
+use Rattle.grammar.specs.Operator.{Role, Table}
 use Rattle.grammar.specs.Span.{Item, single}
 use Rattle.grammar.specs.SpanTree.{
   SpanTree,
@@ -19,14 +19,10 @@ use Rattle.grammar.specs.SpanTree.{
   apply,
   yield,
   present,
-  fixityBy,
   fixity,
-  roleOfFixity,
   roleOver,
   root,
   rootPrecedence,
-  isRight,
-  Position,
   onLeft,
   onRight,
   admitsEqual,
@@ -37,7 +33,7 @@ use Rattle.grammar.specs.SpanTree.{
   IsSpanTree,
 }
 use Rattle.grammar.specs.Continuation.{HasTree}
-use Rattle.grammar.proofs.Logic.{clash, impossible, and-intro}
+use Rattle.grammar.proofs.Logic.{impossible, and-intro}
 use Rattle.grammar.proofs.StackItems.{absent-missing}
 use Rattle.grammar.proofs.AdmittingRole.{AdmittingRole, admitting-role, admitting-root, admits-cases}
 

@@ -12,7 +12,7 @@ use Rattle.grammar.specs.Span.{Item, single, pair, scope, itemTokens, it
 use Rattle.grammar.specs.Spans.{Span, startOf}
 use Rattle.grammar.specs.SpanTree.{SpanTree, missing, operand, apply}
 use Rattle.grammar.specs.Tree.{Tree, nothing, leaf, bracket, block, node}
-use Rattle.grammar.specs.Climb.{Ending, found, stops, search, climb}
+use Rattle.grammar.specs.Climb.{found, stops, search, climb}
 
 -- The operators in force in the body of a block with the declarations `ds`.
 unfoldable pub bodyTable : Table → List Token → Table

@@ -1,5 +1,4 @@
 -- What the search of all spans answers is check 11.
-use mathlib.Core.Path.{sym, _∙_}
 use Rattle.grammar.specs.Declaration.{startTable}
 use Rattle.checks.proofs.Spans.{rows, in-force, no-tree, no-tree-behind, trees}
 use borrow.Author.Needs.{needs}

@@ -1,5 +1,5 @@
 -- The place of refusal 11 for each service.
-use mathlib.Core.Path.{_≡_, sym, _∙_}
+use mathlib.Core.Path.{_≡_}
 use Prim.Native.Nat.{ℕ}
 use borrow.Author.Needs.{needs}
 use Rattle.reader.specs.declared.Answer.{Answer}
