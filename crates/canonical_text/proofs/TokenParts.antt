@@ -8,7 +8,8 @@ use native.Mathlib.Omega.{arith}
 use lib.ListN.{length, take, drop, length-append}
 use lib.Seq.{take-at}
 use Rattle.grammar.specs.Bytes.{Bytes}
-use Rattle.grammar.specs.Token.{Token, atom, structure, symbol, number, quoted, opening, closing, doubled, undoubled, spelling, isSymbol, isToken, structureNumber, semicolon, keywordLet, keywordIn, keywordEnd}
+use Rattle.grammar.specs.Token.{Token, atom, structure, symbol, number, quoted, doubled, undoubled, spelling, isSymbol, isToken}
+use Rattle.grammar.specs.Token.{opening, closing, semicolon, keywordLet, keywordIn, keywordEnd, structureNumber}
 use Rattle.grammar.specs.Operator.{Table, inForce}
 use Rattle.grammar.specs.Scan.{Placed}
 use Rattle.grammar.specs.Tree.{Tree}

@@ -108,7 +108,8 @@ hung-node T l r m t u h g = (
 )
 
 module _ (inner : Table → List Token → Option Tree) (j : ℕ)
-    (sound : (T : Table) → Permitted T × Positive T → (i : ℕ) (ts : List Token) (t : Tree) → Nested ts → length ts < j → checkBlocks j T i ts ≡ passed tt → inner T ts ≡ some t → IsCheckedTree T ts t) where
+    (sound : (T : Table) → Permitted T × Positive T → (i : ℕ) (ts : List Token) (t : Tree) → Nested ts → length ts < j
+    → checkBlocks j T i ts ≡ passed tt → inner T ts ≡ some t → IsCheckedTree T ts t) where
   hangItem-sound : (T : Table) → Permitted T × Positive T → (x : Item) (t : Tree) → Known j T x → hangItem inner T x ≡ some t → Hung T (operand x) t
   unfolding hangItem bodyTable
   hangItem-sound T p (single t₀) t k e = let h : t ≡ leaf t₀ = cc in rw h (hung-single T t₀)
@@ -119,9 +120,10 @@ module _ (inner : Table → List Token → Option Tree) (j : ℕ)
       let h = underBlock-some (declarations ds) (inner (declareAll T (declarations ds)) ts) t e in
       let g = enter-sound T (k .1 .0) ds (k .1 .1) (k .1 .3) in
       let f : inner (k .1 .1) ts ≡ some (h .0) = rw (g .2) (h .1) in
+      let positive : Positive (k .1 .1) = rw (g .2) (positive-declared T (declarations ds) (p .1) (g .1)) in
       rw (h .2)
       (hung-block T (k .1 .0) ds ts (k .1 .1) (h .0) (k .1 .3)
-      (sound (k .1 .1) (permitted-sound (k .1 .1) (g .3), rw (g .2) (positive-declared T (declarations ds) (p .1) (g .1))) (k .1 .2) ts (h .0) (k .0 .0 .1) (scope-within j ds ts (k .0 .1)) (k .1 .4) f))
+      (sound (k .1 .1) (permitted-sound (k .1 .1) (g .3), positive) (k .1 .2) ts (h .0) (k .0 .0 .1) (scope-within j ds ts (k .0 .1)) (k .1 .4) f))
 
   hang-sound : (T : Table) → Permitted T × Positive T → (s : SpanTree) (t : Tree) → All (Known j T) (yield s) → hang inner T s ≡ some t → Hung T s t
   unfolding hang yield
