@@ -33,8 +33,8 @@
  * to. They may share a text, and for rule_write_name also a table.
  *
  * Stack. At most 192 KB for rule_read, 96 KB for rule_canonicalize, 4 KB for rule_write_name and 96 KB for rule_locate. Measured on
- * 2026-11-17, not proved, the most found: 187,928 bytes for `not` 1,023 times and then a name, 95,184 bytes for 32 nested blocks,
- * and 88 bytes. c/stack.c measures it.
+ * 2026-11-17, not proved, the most found: 187,912 bytes for `not` 1,023 times and then a name; 95,184 bytes for 32 nested blocks, of
+ * rule_canonicalize and of rule_locate; and 88 bytes of rule_write_name. c/stack.c measures it.
  *
  * Division. No call divides or takes a remainder, so a processor without an instruction for it needs no routine. c/divisions looks
  * at every function that the four call, before it is compiled, and at this archive.

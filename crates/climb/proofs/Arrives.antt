@@ -11,9 +11,8 @@ use Rattle.grammar.specs.Bytes.{Bytes}
 use Rattle.grammar.specs.Token.{symbol}
 use Rattle.grammar.specs.Operator.{Prefix, Infix, Postfix, right, Role, Table, role, isSome}
 use Rattle.grammar.specs.SpanTree.{SpanTree, missing, present, fixityBy, root, rootPrecedence, isRight, onLeft, onRight, admits}
-use Rattle.grammar.specs.Climb.{firstRole, leftRole, Stack, empty, waiting}
+use Rattle.grammar.specs.Climb.{firstRole, leftRole, Stack, empty, waiting, taking, takes, admitsPrefix, bears, fitsLeft, fitsBelow, arrives}
 use Rattle.grammar.proofs.StackItems.{absent-missing}
-use Rattle.grammar.specs.Climb.{taking, takes, admitsPrefix, bears, fitsLeft, fitsBelow, arrives}
 use Rattle.grammar.proofs.ClimbInvariant.{keeps-admits}
 use Rattle.rows.specs.Fields.{prefix, infixed, postfix}
 use Rattle.rows.specs.Codes.{sideCode, roleCode, roleOf, Fit, IsRole, Bounded}

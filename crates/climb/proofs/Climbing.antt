@@ -11,8 +11,7 @@ use Rattle.grammar.specs.Bytes.{Bytes}
 use Rattle.grammar.specs.Operator.{Role, Table, role}
 use Rattle.grammar.specs.Span.{Item, single, pair, scope, items}
 use Rattle.grammar.specs.SpanTree.{SpanTree, missing, operand, apply, present, roleOver, root}
-use Rattle.grammar.specs.Climb.{Stack, empty, waiting, pushed, closed}
-use Rattle.grammar.specs.Climb.{takes, arrives, postfixLast, finish, Ending, stops, ending, climbFrom, unread, search}
+use Rattle.grammar.specs.Climb.{Stack, empty, waiting, pushed, closed, takes, arrives, postfixLast, finish, Ending, stops, ending, climbFrom, unread, search}
 use Rattle.grammar.proofs.ClimbReached.{at}
 use Rattle.grammar.proofs.Logic.{impossible, clash}
 use Rattle.rows.specs.Fields.{field, arrival, left, right, prefix, infixed, postfix}

@@ -11,8 +11,15 @@ use Rattle.grammar.specs.Token.{symbol}
 use Rattle.grammar.specs.Operator.{Role, Table, role, isSome, Prefix}
 use Rattle.grammar.specs.Span.{Item, single, itemTokens}
 use Rattle.grammar.specs.SpanTree.{SpanTree, missing, operand, apply, present, fixity, fixityBy, roleOfFixity, roleOver, isOperand}
-use Rattle.grammar.specs.Climb.{symbolAt, Stack, empty, waiting, leftRole, givesWay, pushed, closed}
 use Rattle.grammar.specs.Climb.{
+  symbolAt,
+  Stack,
+  empty,
+  waiting,
+  leftRole,
+  givesWay,
+  pushed,
+  closed,
   Progress,
   taking,
   takes,

@@ -12,14 +12,13 @@ use Rattle.grammar.specs.Token.{symbol}
 use Rattle.grammar.specs.Operator.{Table}
 use Rattle.grammar.specs.Span.{Item, single, pair, scope, itemTokens, allItemTokens}
 use Rattle.grammar.specs.SpanTree.{SpanTree, missing, operand, apply, yield, present, fixity, roleOver}
-use Rattle.grammar.specs.Climb.{Stack, empty, waiting}
+use Rattle.grammar.specs.Climb.{Stack, empty, waiting, taking}
 use Rattle.grammar.proofs.ItemsNested.{append-tokens}
 use Rattle.rows.specs.Fields.{field, arrival, left, right}
 use Rattle.rows.specs.Codes.{roleCode}
 use Rattle.rows.specs.Agreeing.{Noted}
 use Rattle.climb.specs.Searched.{width, spanMark, SpanRooted}
 use Rattle.rows.specs.InUse.{roleBeside}
-use Rattle.grammar.specs.Climb.{taking}
 use Rattle.rows.proofs.InUse.{beside-code}
 
 -- How many tokens a tree has.

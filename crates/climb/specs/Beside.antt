@@ -1,14 +1,13 @@
--- What the search reads off the rows: the token behind an item, and whether an operator may come.
+-- What the search reads off the rows: what opens a span, the token behind an item, and whether an operator may come.
 use mathlib.Core.Bool.{Bool, true, false, _||_}
 use mathlib.Core.List.{List}
 use mathlib.Core.Option.{Option, none, some}
 use Prim.Native.Nat.{ℕ, suc}
 use lib.Dec.{leb, eqb}
 use Rattle.grammar.specs.Operator.{Role}
-use Rattle.grammar.specs.Climb.{firstRole}
+use Rattle.grammar.specs.Climb.{firstRole, admitsPrefix, fitsLeft}
 use Rattle.rows.specs.Fields.{kind, closer, prefix, infixed, postfix}
 use Rattle.rows.specs.Codes.{roleOf}
-use Rattle.grammar.specs.Climb.{admitsPrefix, fitsLeft}
 
 -- A token of this kind opens a span: `(` or `in`.
 unfoldable pub opensSpan : ℕ → Bool

@@ -1,10 +1,11 @@
 -- Tables under which an operator can be tested as it arrives: whether it turns out infix or postfix, it admits the same on its left.
-use mathlib.Core.Path.{_≡_, refl, sym, _∙_}
-use mathlib.Core.Bool.{Bool, true, false}
+use mathlib.Core.Path.{_≡_, refl, sym, ap₂, _∙_}
+use mathlib.Core.Bool.{Bool, true, false, _&&_, _||_, not}
+use lib.Dec.{ltb, eqb}
 use mathlib.Core.Option.{Option, none, some}
 use Rattle.grammar.specs.Bytes.{Bytes}
 use Rattle.grammar.specs.Operator.{Prefix, Infix, Postfix, Associativity, left, right, non, Role, Table, role, Conditions, Permitted, apart, conditions}
-use Rattle.grammar.specs.SpanTree.{fixityBy, roleOfFixity, isLeft, onLeft, admitsEqual, admits}
+use Rattle.grammar.specs.SpanTree.{fixityBy, roleOfFixity, isLeft, rootPrecedence, rightRoot, onLeft, admitsEqual, admits}
 use Rattle.grammar.specs.Climb.{firstRole, leftRole}
 use Rattle.grammar.proofs.Logic.{impossible}
 use Rattle.grammar.proofs.Unambiguous.{Unambiguous}
@@ -38,7 +39,8 @@ pub record Alike (q d : Role) : Type 0 where
 
 pub admits-alike : (q d : Role) (o : Option Role) → Alike q d → admits onLeft q o ≡ admits onLeft d o
 unfolding admits admitsEqual
-admits-alike q d o h = rw (h .precedence, h .side)
+admits-alike q d o h =
+    ap₂ (λ p left. ltb (rootPrecedence o) p || (eqb (rootPrecedence o) p && (left && not (rightRoot o)))) (h .precedence) (h .side)
 
 same-alike : (q d : Role) → some q ≡ some d → Alike q d
 same-alike q d e = let f : q ≡ d = cc in rw f (record { precedence = refl; side = refl })

@@ -34,8 +34,15 @@ use Rattle.grammar.specs.SpanTree.{
   Admitted,
   IsSpanTree,
 }
-use Rattle.grammar.specs.Climb.{symbolAt, Stack, empty, waiting, leftRole, givesWay, pushed, closed}
 use Rattle.grammar.specs.Climb.{
+  symbolAt,
+  Stack,
+  empty,
+  waiting,
+  leftRole,
+  givesWay,
+  pushed,
+  closed,
   Progress,
   taking,
   takes,
@@ -56,7 +63,7 @@ use Rattle.grammar.proofs.AdmittingRole.{admits-cases}
 use Rattle.grammar.proofs.Unambiguous.{Keeps, Unambiguous}
 use Rattle.grammar.proofs.Positive.{Positive}
 use Rattle.grammar.proofs.StackItems.{absent-missing}
-use Rattle.grammar.proofs.ClimbComplete.{Bears}
+use Rattle.grammar.proofs.RightSpine.{Bears}
 use Rattle.grammar.specs.Continuation.{HasTree, Continuable}
 use Rattle.grammar.proofs.StackItems.{symbol-is, stackItems, closed-yield, pushed-yield, stack-append}
 use Rattle.grammar.proofs.Arriving.{OneSide, coming, Alike, admits-alike, comes-alike, comes-some}

@@ -1,6 +1,6 @@
 -- What the pass does over the items of an admitted tree: it leaves the tree's right spine waiting, and at the end finds the tree.
 use mathlib.Core.Path.{_≡_, refl, sym, ap, _∙_}
-use mathlib.Core.Bool.{Bool, true, false}
+use mathlib.Core.Bool.{Bool, true, false, not}
 use mathlib.Core.List.{List, [], _∷_, _++_}
 use mathlib.Core.Option.{some}
 use Prim.Native.Nat.{ℕ, _+_}
@@ -8,7 +8,7 @@ use native.Mathlib.Omega.{arith}
 use lib.ListN.{length, length-append}
 use Rattle.grammar.specs.Bytes.{Bytes}
 use Rattle.grammar.specs.Token.{symbol}
-use Rattle.grammar.specs.Operator.{Prefix, Role, Table, role, inForce, isSome}
+use Rattle.grammar.specs.Operator.{Fixity, Prefix, Role, Table, role, inForce, isSome}
 use Rattle.grammar.specs.Span.{Item, single, itemTokens, allItemTokens}
 use Rattle.grammar.specs.SpanTree.{
   SpanTree,
@@ -26,8 +26,12 @@ use Rattle.grammar.specs.SpanTree.{
   isOperand,
   Admitted,
 }
-use Rattle.grammar.specs.Climb.{symbolAt, Stack, empty, waiting, closed}
 use Rattle.grammar.specs.Climb.{
+  symbolAt,
+  Stack,
+  empty,
+  waiting,
+  closed,
   Progress,
   taking,
   takes,
@@ -49,7 +53,7 @@ use Rattle.grammar.proofs.Operators.{has-role}
 use Rattle.grammar.proofs.AdmittingRole.{AdmittingRole, admitting-role, admitting-root}
 use Rattle.grammar.proofs.Unambiguous.{Unambiguous}
 use Rattle.grammar.proofs.StackItems.{absent-missing}
-use Rattle.grammar.proofs.ClimbComplete.{Bears, bears-lower, left-gives, keeps-right, role-by, left-role, push, spine, spineEnd}
+use Rattle.grammar.proofs.RightSpine.{Bears, bears-lower, left-gives, keeps-right, role-by, left-role, push, spine, spineEnd}
 use Rattle.grammar.proofs.Arriving.{OneSide, coming, admits-alike, comes-alike}
 use Rattle.grammar.proofs.ClimbInvariant.{keeps-admits}
 
@@ -95,12 +99,16 @@ module _ (T : Table) (clear : Unambiguous T) (side : OneSide T) where
           rw (e, arrives, d .1) (sym (admits-alike (c .own) (d .0) (root T l) alike) ∙ c .leftFits)
       go false e = rw (e, arrives, prefix (present r) (rw e at (role-by c))) (bears-prefix w (c .own) b)
 
+  operator-item : (m : Bytes) (f : Fixity) (q : Role) → role T m f ≡ some q → isOperand T (single (symbol m)) ≡ false
+  unfolding isOperand isOperandAtom inForce
+  operator-item m f q e = ap not (has-role (role T m) f q e)
+
   operator-step :
       (l : SpanTree) (m : Bytes) (r : SpanTree) → Admitted T l → (c : AdmittingRole T l m r) (w : Stack) → Bears T w (c .own .precedence)
       → advance T (at (spine l w) (spineEnd l)) (single (symbol m)) ≡ some (at (waiting l m w) missing)
-  unfolding advance operatorStep isOperand isOperandAtom symbolAt arrived inForce
+  unfolding advance operatorStep symbolAt arrived
   operator-step l m r a c w b =
-      rw (advance, has-role (role T m) (c .form) (c .own) (c .known), push T clear l m r a c w b, arrived, tree-arrives l m r c w b)
+      rw (advance, operator-item m (c .form) (c .own) (c .known), push T clear l m r a c w b, arrived, tree-arrives l m r c w b)
 
   operand-step : (i : Item) (w : Stack) (p : ℕ) → isOperand T i ≡ true → Bears T w p → advance T (at w missing) i ≡ some (at w (operand i))
   unfolding advance operandStep present

@@ -22,7 +22,7 @@ pub mod AdmittingRole
 pub mod WidestRoot
 pub mod TreeOperators
 pub mod Unambiguous
-pub mod ClimbComplete
+pub mod RightSpine
 pub mod TreeCut
 pub mod Continuations
 pub mod Arriving

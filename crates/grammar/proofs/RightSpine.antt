@@ -1,6 +1,5 @@
--- COPIED from grammar/proofs/ClimbComplete.antt, which keeps these to itself; only `pub` is new.
--- The pass from left to right finds each admitted tree. Over the tree's items it leaves the tree's right spine waiting: an operator closes
--- its left operand, which gives way to it, and no more, since what waits below keeps it. So a span has at most one tree.
+-- What waits when all items of an admitted tree have come: its right spine. An operator that comes closes its left operand, which gives way
+-- to it, and no more, since what waits below keeps it.
 use mathlib.Core.Path.{_≡_, refl, sym, subst, _∙_}
 use mathlib.Core.Bool.{Bool, true, false, not}
 use mathlib.Core.Option.{Option, none, some}
@@ -37,7 +36,6 @@ use Rattle.grammar.specs.Climb.{
   leftRole,
   givesWay,
   pushed,
-  closed,
 }
 use Rattle.grammar.proofs.Logic.{and-right, clash}
 use Rattle.grammar.proofs.AdmittingRole.{AdmittingRole, admitting-role, admitting-root, admits-cases}
@@ -71,12 +69,6 @@ spineEnd missing = missing
 spineEnd (operand i) = operand i
 spineEnd (apply l m r) = spineEnd r
 
-pub closed-spine : (s : SpanTree) (w : Stack) → closed (spine s w) (spineEnd s) ≡ closed w s
-unfolding closed spine spineEnd
-closed-spine missing w = refl
-closed-spine (operand i) w = refl
-closed-spine (apply l m r) w = closed-spine r (waiting l m w)
-
 -- The test whether an operator gives way.
 pub gives-way : (q d : Role) → GivesWay (some q) (d .precedence) → givesWay (some q) (some d) ≡ true
 unfolding givesWay rightRoot rootPrecedence
@@ -109,16 +101,16 @@ module _ (T : Table) (m : Bytes) (d : Role) (comes : leftRole T m ≡ some d) wh
   unfolding spine spineEnd root pushed
   collapse missing a g w = refl
   collapse (operand i) a g w = refl
-  collapse (apply l t r) a g w = collapse r (a .1) (gives-right (c .own) (root T r) (d .precedence) (keeps-right c) here) (waiting l t w) ∙ advance
+  collapse (apply l t r) a g w = collapse r (a .1) (gives-right (c .own) (root T r) (d .precedence) (keeps-right c) here) (waiting l t w) ∙ closes
     where
       c : AdmittingRole T l t r
       c = admitting-role T l t r a
 
       here : GivesWay (some (c .own)) (d .precedence)
-      here = rw (admitting-root c) at g
+      here = subst (λ o. GivesWay o (d .precedence)) (admitting-root c) g
 
-      advance : pushed T m (waiting l t w) r ≡ pushed T m w (apply l t r)
-      advance = rw (pushed, comes, admitting-root c, gives-way (c .own) d here)
+      closes : pushed T m (waiting l t w) r ≡ pushed T m w (apply l t r)
+      closes = rw (pushed, comes, admitting-root c, gives-way (c .own) d here)
 
 -- A waiting operator that does not give way stays.
 push-stays :
