@@ -1,5 +1,5 @@
--- What holds of a call of either service. A service gives a refusal of checks 1 to 11 and 17 on; of a text that is read it writes something over
--- the buffer, or refuses with a number of its own where that does not fit. What is read is what the text reads as.
+-- What holds of a call of any service on a text. It gives a refusal of checks 1 to 11 and 17 on, 11 perhaps at another place; of a text that is
+-- read it writes something over the buffer, or refuses with a number of its own where that does not fit. What is read is what the text reads as.
 use mathlib.Core.Path.{_≡_, refl, sym, ap, _∙_}
 use mathlib.Core.Logic.{_↔_, _⊎_, inl, inr, ⊎-elim}
 use mathlib.Core.Bool.{Bool, true, false}
@@ -22,23 +22,29 @@ use Rattle.reader.specs.declared.Answer.{Answer}
 use Rattle.reader.specs.Answered.{answerOf, resultOf}
 use Rattle.reader.specs.Demands.{RightAnswer}
 
--- `own` is the service's own number; a reading fits or not, gives a count, and something to write.
-module _ (own : ℕ) (fits : Reading → Bool) (counted : Reading → ℕ) (contents : Reading → List ℕ) where
+-- A refusal is given at its own place.
+abbrev pub ownPlace : ℕ → ℕ → ℕ
+ownPlace n p = p
+
+-- `told` is the place at which a refusal is given, by its number and its own place, and `own` the service's own number; a reading fits or not,
+-- gives a count, and something to write.
+module _ (told : ℕ → ℕ → ℕ) (own : ℕ) (fits : Reading → Bool) (counted : Reading → ℕ) (contents : Reading → List ℕ) where
   unfoldable pub served : List ℕ → Outcome Reading → Result
-  served B (refused n p) = record { answer = rejection n p; buffer = B }
+  served B (refused n p) = record { answer = rejection n (told n p); buffer = B }
   served B (passed r) =
       elim (fits r) [
         | true ↦ record { answer = success (counted r); buffer = over (contents r) B }
         | false ↦ record { answer = rejection own 0; buffer = B }
       ]
 
-  module _ (between : (11 < own) × (own < 17)) (text : Bytes) (B B′ : List ℕ) (a : Answer) (h : resultOf a B′ ≡ served B (readText text)) where
+  module _ (between : (11 < own) × (own < 17)) (kept : (n p : ℕ) → (n ≡ 11 → ⊥) → told n p ≡ p)
+      (text : Bytes) (B B′ : List ℕ) (a : Answer) (h : resultOf a B′ ≡ served B (readText text)) where
     -- The answer's three numbers and the buffer.
-    record Gives (n p c : ℕ) (C : List ℕ) : Type 0 where
-      number : a .number ≡ n
-      offset : a .offset ≡ p
-      count : a .count ≡ c
-      buffer : B′ ≡ C
+    pub record Gives (n p c : ℕ) (C : List ℕ) : Type 0 where
+      pub number : a .number ≡ n
+      pub offset : a .offset ≡ p
+      pub count : a .count ≡ c
+      pub buffer : B′ ≡ C
 
     gives :
         (n p c : ℕ) (C : List ℕ) → served B (readText text) ≡ record { answer = record { number = n; offset = p; count = c }; buffer = C }
@@ -52,9 +58,9 @@ module _ (own : ℕ) (fits : Reading → Bool) (counted : Reading → ℕ) (cont
           buffer = ap (λ r. r .buffer) (h ∙ e);
         }
 
-    by-outcome :
+    pub by-outcome :
         {X : Type 0}
-        → ((n p : ℕ) → readText text ≡ refused n p → OfChecks n → Gives n p 0 B → X)
+        → ((n p : ℕ) → readText text ≡ refused n p → OfChecks n → Gives n (told n p) 0 B → X)
         → ((r : Reading) → readText text ≡ passed r → fits r ≡ true → Gives 0 0 (counted r) (over (contents r) B) → X)
         → ((r : Reading) → readText text ≡ passed r → fits r ≡ false → Gives own 0 0 B → X)
         → X
@@ -62,7 +68,7 @@ module _ (own : ℕ) (fits : Reading → Bool) (counted : Reading → ℕ) (cont
     by-outcome {X} f g k = go (readText text) refl
       where
         go : (o : Outcome Reading) → readText text ≡ o → X
-        go (refused n p) e = f n p e (numbered-holds OfChecks (readText text) (read-numbered text) n p e) (gives n p 0 B (rw e))
+        go (refused n p) e = f n p e (numbered-holds OfChecks (readText text) (read-numbered text) n p e) (gives n (told n p) 0 B (rw e))
         go (passed r) e = test (fits r) refl
           where
             test : (b : Bool) → fits r ≡ b → X
@@ -77,7 +83,7 @@ module _ (own : ℕ) (fits : Reading → Bool) (counted : Reading → ℕ) (cont
     not-own n k z = ⊎-elim (λ l. omega arith) (λ l. omega arith) k
 
     -- The answer is 0, a number of checks 1 to 11 and 17, or the service's own.
-    number-known : (a .number ≤ 11) ⊎ ((a .number ≡ 17) ⊎ (a .number ≡ own))
+    pub number-known : (a .number ≤ 11) ⊎ ((a .number ≡ 17) ⊎ (a .number ≡ own))
     number-known =
         by-outcome (λ n p e k g. ⊎-elim (λ l. inl (omega (arith, g .number))) (λ l. inr (inl (g .number ∙ l))) k)
         (λ r e t g. inl (omega (arith, g .number))) (λ r e t g. inr (inr (g .number)))
@@ -88,20 +94,27 @@ module _ (own : ℕ) (fits : Reading → Bool) (counted : Reading → ℕ) (cont
         by-outcome (λ n p e k g. (g .buffer, g .count)) (λ r e t g. absurd (f (g .number))) (λ r e t g. (g .buffer, g .count))
 
     -- A success, and the service's own refusal, have place 0.
-    place-zero : (a .number ≡ 0) ⊎ (a .number ≡ own) → a .offset ≡ 0
+    pub place-zero : (a .number ≡ 0) ⊎ (a .number ≡ own) → a .offset ≡ 0
     place-zero w =
         by-outcome (λ n p e k g. absurd (⊎-elim (λ z. not-zero n k (sym (g .number) ∙ z)) (λ z. not-own n k (sym (g .number) ∙ z)) w))
         (λ r e t g. g .offset) (λ r e t g. g .offset)
 
-    -- A refusal of checks 1 to 11 and 17 is that of the definition, with its place.
-    refusal-placed : (n p : ℕ) → OfChecks n → ((a .number ≡ n) × (a .offset ≡ p)) ↔ (readText text ≡ refused n p)
+    -- A refusal of checks 1 to 11 and 17 is that of the definition, at the place at which it is given.
+    pub refusal-placed :
+        (n p : ℕ) → OfChecks n → ((a .number ≡ n) × (a .offset ≡ p)) ↔ ((q : ℕ) × (readText text ≡ refused n q) × (p ≡ told n q))
     refusal-placed n p b = (
       λ z.
-          by-outcome (λ k q e i g. rw (sym (g .number) ∙ z .0, sym (g .offset) ∙ z .1) at e)
+          by-outcome
+          (λ k q e i g.
+          let same : k ≡ n = sym (g .number) ∙ z .0 in
+          (q, e ∙ ap (λ j. refused j q) same, sym (z .1) ∙ g .offset ∙ ap (λ j. told j q) same))
           (λ r e t g. absurd (not-zero n b (sym (z .0) ∙ g .number)))
           (λ r e t g. absurd (not-own n b (sym (z .0) ∙ g .number))),
-      λ w.
-          by-outcome (λ k q e i g. let x : refused k q ≡ refused n p = sym e ∙ w in (g .number ∙ cc, g .offset ∙ cc))
+      λ (q, w, f).
+          by-outcome
+          (λ k j e i g.
+          let x : refused k j ≡ refused n q = sym e ∙ w in
+          (g .number ∙ cc, g .offset ∙ cc (f)))
           (λ r e t g. let x = sym e ∙ w in impossible cc)
           (λ r e t g. let x = sym e ∙ w in impossible cc),
     )
@@ -110,22 +123,20 @@ module _ (own : ℕ) (fits : Reading → Bool) (counted : Reading → ℕ) (cont
     among-checks : (n : ℕ) → BeforeEleven n → OfChecks n
     among-checks n b = ⊎-elim (λ l. inl (omega arith)) inr b
 
-    faults : (n p : ℕ) → ((a .number ≡ n) × (a .offset ≡ p) × BeforeEleven n) ↔ Fault text n p
+    at-own-place : (n p : ℕ) → BeforeEleven n → told n p ≡ p
+    at-own-place n p b = kept n p (λ e. ⊎-elim (λ l. omega arith) (λ l. omega arith) b)
+
+    pub faults : (n p : ℕ) → ((a .number ≡ n) × (a .offset ≡ p) × BeforeEleven n) ↔ Fault text n p
     faults n p = (
-      λ (z, o, b). fault-exactly text n p .0 (refusal-placed n p (among-checks n b) .0 (z, o), b),
+      λ (z, o, b).
+          let (q, e, f) = refusal-placed n p (among-checks n b) .0 (z, o) in
+          let same : q ≡ p = sym (at-own-place n q b) ∙ sym f in
+          fault-exactly text n p .0 (e ∙ ap (refused n) same, b),
       λ f.
           let (e, b) = fault-exactly text n p .1 f in
-          let (z, o) = refusal-placed n p (among-checks n b) .1 e in
+          let (z, o) = refusal-placed n p (among-checks n b) .1 (p, e, sym (at-own-place n p b)) in
           (z, o, b),
     )
-
-    -- 11.
-    eleven :
-        (p : ℕ) → ((a .number ≡ 11) × (a .offset ≡ p)) ↔ ((x : Token) × (ts : List Token) × Past text (x ∷ ts) × FirstWithout text (x ∷ ts) p)
-    eleven p =
-        let e = eleven-exactly text p in
-        let r = refusal-placed 11 p (inl (omega arith)) in
-        (λ z. e .0 (r .0 z), λ w. r .1 (e .1 w))
 
     -- A success writes what is read.
     pub success-reads :
@@ -144,7 +155,7 @@ module _ (own : ℕ) (fits : Reading → Bool) (counted : Reading → ℕ) (cont
     -- What fits, said of trees.
     module _ (Fits : Tree → Type 0) (same : (r : Reading) → (fits r ≡ true) ↔ Fits (r .tree)) where
       -- 0 exactly where the text reads as something and it fits, ..
-      zero-exactly : (a .number ≡ 0) ↔ ((t : Tree) × ReadingOf text t × Fits t)
+      pub zero-exactly : (a .number ≡ 0) ↔ ((t : Tree) × ReadingOf text t × Fits t)
       zero-exactly = (
         λ z. let (r, e, t, c, w) = success-reads z in (r .tree, reading-of text r e, same r .0 t),
         λ (t, h, f). let (r, e, q) = read-of text t h in fitting r (same r .1 (rw q f)) (tested r e),
@@ -155,7 +166,7 @@ module _ (own : ℕ) (fits : Reading → Bool) (counted : Reading → ℕ) (cont
           fitting r t (inr w) = absurd (clash t (w .0))
 
       -- .. and the service's own number exactly where it does not.
-      own-exactly : (a .number ≡ own) ↔ ((t : Tree) × ReadingOf text t × (Fits t → ⊥))
+      pub own-exactly : (a .number ≡ own) ↔ ((t : Tree) × ReadingOf text t × (Fits t → ⊥))
       own-exactly = (
         λ z.
             by-outcome (λ n p e k g. absurd (not-own n k (sym (g .number) ∙ z))) (λ r e t g. absurd (omega (arith, g .number, z)))
@@ -167,15 +178,31 @@ module _ (own : ℕ) (fits : Reading → Bool) (counted : Reading → ℕ) (cont
           failing r n (inl w) = absurd (n (same r .0 (w .0)))
           failing r n (inr w) = w .1
 
-      -- Demand 1 of a call.
-      pub answers : RightAnswer own Fits text B B′ a
-      answers =
-          record {
-            known = number-known;
-            faults = faults;
-            eleven = eleven;
-            success = zero-exactly;
-            tooShort = own-exactly;
-            placeZero = place-zero;
-            unchanged = refusal-unchanged;
-          }
+-- Demand 1 of a call of a service that gives each refusal at its own place.
+module _ (own : ℕ) (fits : Reading → Bool) (counted : Reading → ℕ) (contents : Reading → List ℕ) (between : (11 < own) × (own < 17))
+    (text : Bytes) (B B′ : List ℕ) (a : Answer) (h : resultOf a B′ ≡ served ownPlace own fits counted contents B (readText text)) where
+  kept : (n p : ℕ) → (n ≡ 11 → ⊥) → ownPlace n p ≡ p
+  kept n p d = refl
+
+  eleven :
+      (p : ℕ) → ((a .number ≡ 11) × (a .offset ≡ p)) ↔ ((x : Token) × (ts : List Token) × Past text (x ∷ ts) × FirstWithout text (x ∷ ts) p)
+  eleven p =
+      let e = eleven-exactly text p in
+      let r = refusal-placed ownPlace own fits counted contents between kept text B B′ a h 11 p (inl (omega arith)) in
+      (λ z. let (q, w, f) = r .0 z in e .0 (w ∙ ap (refused 11) (sym f)), λ w. r .1 (p, e .1 w, refl))
+
+  pub answers : (Fits : Tree → Type 0) → ((r : Reading) → (fits r ≡ true) ↔ Fits (r .tree)) → RightAnswer own Fits text B B′ a
+  answers Fits same =
+      record {
+        known = number-known ownPlace own fits counted contents between kept text B B′ a h;
+        faults = faults ownPlace own fits counted contents between kept text B B′ a h;
+        eleven = eleven;
+        success = zero-exactly ownPlace own fits counted contents between kept text B B′ a h Fits same;
+        tooShort = own-exactly ownPlace own fits counted contents between kept text B B′ a h Fits same;
+        placeZero = place-zero ownPlace own fits counted contents between kept text B B′ a h;
+        unchanged = refusal-unchanged ownPlace own fits counted contents between kept text B B′ a h;
+      }
+
+  pub success-read :
+      a .number ≡ 0 → (r : Reading) × (readText text ≡ passed r) × (fits r ≡ true) × (a .count ≡ counted r) × (B′ ≡ over (contents r) B)
+  success-read = success-reads ownPlace own fits counted contents between kept text B B′ a h

@@ -32,7 +32,7 @@ use Rattle.reader.specs.declared.Answer.{Answer}
 use Rattle.reader.specs.Answered.{resultOf, Reads, Canonicalizes}
 use Rattle.reader.specs.Demands.{RightAnswer, TableFits, BufferFits, TableHolds, BufferHolds, RightCanonical, Canonicalized}
 use Rattle.reader.proofs.Calls as Calls
-use Rattle.reader.proofs.Calls.{served}
+use Rattle.reader.proofs.Calls.{ownPlace, served}
 use Rattle.reader.proofs.ReadCalls as ReadCalls
 
 bufferFits : List ℕ → Reading → Bool
@@ -44,11 +44,11 @@ bytesOf r = length (readingText r)
 -- Canonicalizing is such a service.
 canonicalizing :
     (text : Bytes) (B B′ : List ℕ) (a : Answer) → Canonicalizes text B B′ a
-    → resultOf a B′ ≡ served 13 (bufferFits B) bytesOf readingText B (readText text)
+    → resultOf a B′ ≡ served ownPlace 13 (bufferFits B) bytesOf readingText B (readText text)
 unfolding G.canonicalize canonicalizeInto writeInto served bufferFits bytesOf
 canonicalizing text B B′ a h = h ∙ go (readText text)
   where
-    go : (o : Outcome Reading) → canonicalizeInto B o ≡ served 13 (bufferFits B) bytesOf readingText B o
+    go : (o : Outcome Reading) → canonicalizeInto B o ≡ served ownPlace 13 (bufferFits B) bytesOf readingText B o
     go (refused n p) = refl
     go (passed r) = refl
 
@@ -71,7 +71,7 @@ pub written :
 unfolding bytesOf over readingText
 written text B B′ a h z t i =
     let (r, e, f, c, w) =
-    Calls.success-reads 13 (bufferFits B) bytesOf readingText (omega arith) text B B′ a (canonicalizing text B B′ a h) z in
+    Calls.success-read 13 (bufferFits B) bytesOf readingText (omega arith) text B B′ a (canonicalizing text B B′ a h) z in
     let same : r .tree ≡ t = same-reading text (r .tree) t (reading-of text r e) i in
     let s = canonicalBytes (r .tree) in
     subst (BufferHolds B B′ (a .count)) same

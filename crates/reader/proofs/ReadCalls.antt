@@ -34,7 +34,7 @@ use Rattle.reader.specs.Answered.{resultOf, Reads}
 use Rattle.reader.specs.Demands.{RightAnswer, TableFits, TableHolds, RightReading}
 use Rattle.reader.proofs.NodeCharacters as NodeCharacters
 use Rattle.reader.proofs.Calls as Calls
-use Rattle.reader.proofs.Calls.{served}
+use Rattle.reader.proofs.Calls.{ownPlace, served}
 
 tableFits : List ℕ → Reading → Bool
 tableFits N r = leb (wordsPerNode * count (r .tree)) (length N)
@@ -45,11 +45,11 @@ nodesOf r = count (r .tree)
 -- Reading is such a service.
 reading :
     (text : Bytes) (N N′ : List ℕ) (a : Answer) → Reads text N N′ a
-    → resultOf a N′ ≡ served 12 (tableFits N) nodesOf (readingWords text) N (readText text)
+    → resultOf a N′ ≡ served ownPlace 12 (tableFits N) nodesOf (readingWords text) N (readText text)
 unfolding G.read readInto served tableFits nodesOf
 reading text N N′ a h = h ∙ go (readText text)
   where
-    go : (o : Outcome Reading) → readInto text N o ≡ served 12 (tableFits N) nodesOf (readingWords text) N o
+    go : (o : Outcome Reading) → readInto text N o ≡ served ownPlace 12 (tableFits N) nodesOf (readingWords text) N o
     go (refused n p) = refl
     go (passed r) = refl
 
@@ -92,7 +92,7 @@ pub tree-held :
 unfolding nodesOf
 tree-held text N N′ a h z t i =
     let (r, e, f, c, w) =
-    Calls.success-reads 12 (tableFits N) nodesOf (readingWords text) (omega arith) text N N′ a (reading text N N′ a h) z in
+    Calls.success-read 12 (tableFits N) nodesOf (readingWords text) (omega arith) text N N′ a (reading text N N′ a h) z in
     let same : r .tree ≡ t = same-reading text (r .tree) t (reading-of text r e) i in
     rw c (subst (λ u. TableHolds text N N′ (count (r .tree)) u) same (reading-holds text N N′ r e w))
 
