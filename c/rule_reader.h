@@ -32,8 +32,8 @@
  * Threads. There are no variables outside a call: several threads may call at once, each with a table or buffer of its own to write
  * to. They may share a text, and for rule_write_name also a table.
  *
- * Stack. At most 192 KB for rule_read, 96 KB for rule_canonicalize, 4 KB for rule_write_name and 96 KB for rule_locate. Measured on
- * 2026-11-17, not proved, the most found: 187,912 bytes for `not` 1,023 times and then a name; 95,184 bytes for 32 nested blocks, of
+ * Stack. At most 192 KB for rule_read, 72 KB for rule_canonicalize, 4 KB for rule_write_name and 72 KB for rule_locate. Measured on
+ * 2026-11-18, not proved, the most found: 187,912 bytes for `not` 1,023 times and then a name; 62,040 bytes for 32 nested blocks, of
  * rule_canonicalize and of rule_locate; and 88 bytes of rule_write_name. c/stack.c measures it.
  *
  * Division. No call divides or takes a remainder, so a processor without an instruction for it needs no routine. c/divisions looks
@@ -64,7 +64,7 @@
  */
 #define RULE_READER_VERSION_MAJOR 6
 #define RULE_READER_VERSION_MINOR 1
-#define RULE_READER_VERSION_PATCH 0
+#define RULE_READER_VERSION_PATCH 1
 #define RULE_READER_VERSION \
     (10000 * RULE_READER_VERSION_MAJOR + 100 * RULE_READER_VERSION_MINOR + RULE_READER_VERSION_PATCH)
 

@@ -16,7 +16,7 @@
 enum service { READ, CANONICALIZE, WRITE_NAME, LOCATE, SERVICES };
 
 /* What the header tells a user. */
-static const size_t allowed[SERVICES] = {192 * 1024, 96 * 1024, 4 * 1024, 96 * 1024};
+static const size_t allowed[SERVICES] = {192 * 1024, 72 * 1024, 4 * 1024, 72 * 1024};
 
 enum { STACK = 1024 * 1024 };
 

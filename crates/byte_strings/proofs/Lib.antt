@@ -1,3 +1,3 @@
 pub mod Suffixes
 pub mod Puts
-pub mod Blanks
+pub mod LeadingZeros

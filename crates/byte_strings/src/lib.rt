@@ -1,10 +1,9 @@
-// Byte strings: comparing, cutting, copying, and the blanks between tokens.
+// Byte strings: comparing, cutting, copying, and leading zeros.
 ghost use mathlib.Core.Path.{_≡_};
-ghost use Prim.Native.Nat.{_+_, _≤_};
+ghost use Prim.Native.Nat.{_+_, _≤_, _<_};
 ghost use lib.ListN.{length, take, drop};
 ghost use Rattle.grammar.specs.Bytes.{same};
-ghost use Rattle.grammar.specs.Token.{isBlankByte};
-ghost use Rattle.grammar.specs.Scan.{run};
+ghost use Rattle.grammar.specs.Canonical.{strip};
 ghost use Rattle.byte_strings.specs.Puts.{Put};
 
 // Whether two byte strings are the same.
@@ -39,22 +38,19 @@ pub fn cut(text: &[u8], at: usize, n: usize) -> &[u8]
     &text[at..e]
 }
 
-// Where the blanks from `at` on end.
-pub fn blank_end(text: &[u8], at: usize) -> usize
-    ensures { λ r. ⌜ r ≡ at + run isBlankByte (drop at (now (text .entry))) ⌝ }
+// How many leading zeros go: all that stand before another digit.
+pub fn zeros(digits: &[u8]) -> usize
+    requires { ⌜ 1 ≤ length (now digits) ⌝ }
+    ensures { λ r. ⌜ (r < length (now (digits .entry))) × (drop r (now (digits .entry)) ≡ strip (now (digits .entry))) ⌝ }
 {
-    let mut i = at;
-    while i < text.len() {
-        match text[i] {
-            9 | 10 | 13 | 32 => {
-                i += 1;
-            }
-            _ => {
-                return i;
-            }
+    let mut z: usize = 0;
+    while z + 1 < digits.len() {
+        if digits[z] != b'0' {
+            return z;
         }
+        z += 1;
     }
-    i
+    z
 }
 
 // Copies bytes to place `n` of a buffer, and answers the place behind them.

@@ -1,4 +1,3 @@
-pub mod Leads
 pub mod Trees
 pub mod TreeRows
 pub mod Operand
@@ -6,7 +5,6 @@ pub mod Pairs
 pub mod Operator
 pub mod Going
 pub mod Keeping
-pub mod Zeros
 pub mod Symbols
 pub mod Quoting
 pub mod TrimToken

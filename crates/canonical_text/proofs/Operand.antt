@@ -18,7 +18,8 @@ use Rattle.rows.specs.InUse.{roleInUse}
 use Rattle.rows.proofs.Fields.{within}
 use Rattle.rows.proofs.Codes.{role-code, code-role}
 use Rattle.rows.proofs.AtomRoles.{fit-root}
-use Rattle.canonical_text.specs.Brackets.{held, stays, TreeAt, Leads, OperandAt}
+use Rattle.rows.specs.Below.{Leads}
+use Rattle.canonical_text.specs.Brackets.{held, stays, TreeAt, OperandAt}
 use Rattle.canonical_text.proofs.TreeRows.{heldAt, held-leads, HeldHere, held-here}
 
 -- No operand, one that is no bracket pair, and one that is a pair.

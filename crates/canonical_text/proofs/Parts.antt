@@ -4,8 +4,9 @@ use mathlib.Core.List.{List, [], _∷_, _++_}
 use Prim.Native.Nat.{ℕ, zero, suc, _+_, _-_, _≤_, _<_}
 use native.Mathlib.Omega.{arith}
 use lib.ListN.{length, length-append}
+use Rattle.grammar.specs.Canonical.{spacedPieces, joinPieces}
 use Rattle.grammar.specs.Bytes.{Bytes}
-use Rattle.canonical_text.specs.Pieces.{before, parts, spacedPieces, joinPieces}
+use Rattle.canonical_text.specs.Pieces.{before, parts}
 
 -- A part that is empty, and one that is not.
 pub before-none : (p : Bytes) (ps : List Bytes) → length p ≡ 0 → before p ps ≡ ps

@@ -7,20 +7,19 @@ use native.Mathlib.Omega.{arith}
 use lib.ListN.{length}
 use Rattle.grammar.specs.Bytes.{Bytes}
 use Rattle.grammar.specs.Declaration.{startTable}
-use Rattle.grammar.specs.Tree.{flat}
-use Rattle.grammar.specs.Canonical.{canonical, canonicalText}
+use Rattle.grammar.specs.Canonical.{canonical, canonicalText, joinPieces, joinTokens}
 use Rattle.grammar.specs.Answer.{Reading, readingText}
 use Rattle.rows.specs.Fields.{Holds}
 use Rattle.rows.specs.Tokens.{writtenOf}
 use Rattle.rows.specs.Reading.{Ready}
 use Rattle.rows.proofs.Fields.{within}
-use Rattle.canonical_text.specs.Pieces.{parts, joinPieces, Prepared}
+use Rattle.canonical_text.specs.Pieces.{parts, Prepared}
 use Rattle.canonical_text.specs.Brackets.{Keepable, KeptRow}
 use Rattle.canonical_text.specs.Trimming.{partOf, Trimmable, TrimmedRow}
 use Rattle.canonical_text.proofs.Parts.{parts-same}
 use Rattle.canonical_text.proofs.ReadyTree.{ready-spelled, ready-whole, ready-tree}
 use Rattle.canonical_text.proofs.TokenParts.{stored-bracket, kept-trimmable}
-use Rattle.canonical_text.proofs.TreeParts.{join-spellings, whole-parts}
+use Rattle.canonical_text.proofs.TreeParts.{whole-parts}
 
 module _ {text : Bytes} {K R O : List ℕ} {r : Reading} (h : Ready text K R O r) {n : ℕ} (c : n ≡ length (r .tokens)) where
   pub ready-keepable : Keepable K R O n startTable (r .tree)
@@ -37,11 +36,10 @@ module _ {text : Bytes} {K R O : List ℕ} {r : Reading} (h : Ready text K R O r
 
     -- What the tokens leave, joined.
     joined : joinPieces (parts (partOf text R K₁) 0 n) ≡ readingText r
-    unfolding readingText canonicalText
+    unfolding readingText canonicalText joinTokens
     joined =
         ap (λ m. joinPieces (parts (partOf text R K₁) 0 m)) (c ∙ ready-whole h)
         ∙ ap joinPieces (whole-parts (h .stored) k R startTable (r .tree) (ready-tree h) (ready-spelled h) (k .sized))
-        ∙ join-spellings (flat (canonical startTable (r .tree)))
 
     pub ready-prepared : {K₂ : List ℕ} {total : ℕ} → TrimmedRow text R K₁ n K₂ total → Prepared text K₂ n r total
     ready-prepared {K₂} {total} t = record {

@@ -35,7 +35,7 @@ use Rattle.grammar.specs.Scan.{Placed}
 use Rattle.grammar.specs.Coded.{kindOf}
 use Rattle.grammar.specs.SpanTree.{Position, onLeft, onRight, root, roleOver, isOperand, isOperandAtom}
 use Rattle.grammar.specs.Tree.{Tree, nothing, leaf, bracket, block, node, flat, spanTree}
-use Rattle.grammar.specs.Canonical.{withoutZeros, orZero, strip, stripDeclaration, writtenName, writtenAtom, fitted, canonical, refuses, spaced, joinTokens}
+use Rattle.grammar.specs.Canonical.{withoutZeros, orZero, strip, stripDeclaration, writtenName, writtenAtom, fitted, canonical, refuses}
 use Rattle.grammar.proofs.Logic.{and-left}
 use Rattle.rows.specs.Fields.{kind, size}
 use Rattle.rows.specs.Tokens.{tokenIn, tokensIn, Stored}
@@ -43,7 +43,7 @@ use Rattle.rows.specs.Agreeing.{Noted}
 use Rattle.rows.proofs.Ranges.{token-structure}
 use Rattle.rows.proofs.TokenBytes.{structure-kind, token-bytes}
 use Rattle.rows.proofs.Stored.{stored-valid}
-use Rattle.canonical_text.specs.Pieces.{parts, spacedPieces, joinPieces}
+use Rattle.canonical_text.specs.Pieces.{parts}
 use Rattle.canonical_text.specs.Brackets.{stays, TreeAt, sizeIf, Sized, KeptRow}
 use Rattle.canonical_text.specs.Trimming.{partOf}
 use Rattle.canonical_text.proofs.Trees.{wrapIf, admits-left, admits-right, operand-wrapped}
@@ -52,17 +52,7 @@ use Rattle.canonical_text.proofs.Parts.{before-none, before-some, parts
 use Rattle.canonical_text.proofs.ReadyTree.{Spelled}
 use Rattle.canonical_text.proofs.TokenParts.{part-token, part-digits, part-name, part-bracket, part-none}
 
--- Spellings of tokens, joined.
-spaced-spellings : (ts : List Token) → spacedPieces (map spelling ts) ≡ spaced ts
-unfolding spacedPieces spaced
-spaced-spellings [] = refl
-spaced-spellings (t ∷ ts) = ap (λ s. 32 ∷ spelling t ++ s) (spaced-spellings ts)
-
-pub join-spellings : (ts : List Token) → joinPieces (map spelling ts) ≡ joinTokens ts
-unfolding joinPieces joinTokens
-join-spellings [] = refl
-join-spellings (t ∷ ts) = ap (λ s. spelling t ++ s) (spaced-spellings ts)
-
+-- Spellings of tokens.
 spellings : (xs ys : List Token) → map spelling (xs ++ ys) ≡ map spelling xs ++ map spelling ys
 spellings [] ys = refl
 spellings (x ∷ xs) ys = ap (_∷_ (spelling x)) (spellings xs ys)

@@ -24,7 +24,8 @@ use Rattle.rows.specs.InUse.{roleBeside, roleInUse}
 use Rattle.rows.proofs.Fields.{within}
 use Rattle.rows.proofs.AtomRoles.{arrival-has, arrival-operand}
 use Rattle.rows.proofs.InUse.{use-none, use-beside, beside-code, mark-present}
-use Rattle.canonical_text.specs.Brackets.{held, Stands, TreeAt, Leads, there, through}
+use Rattle.rows.specs.Below.{Leads, there, through}
+use Rattle.canonical_text.specs.Brackets.{held, Stands, TreeAt}
 
 -- How many tokens a tree has.
 pub bracket-length : (t : Tree) → length (flat (bracket t)) ≡ suc (suc (length (flat t)))

@@ -4,12 +4,13 @@ use mathlib.Core.List.{List}
 use Prim.Native.Nat.{ℕ, suc, _+_, _-_, _*_, _≤_, _<_}
 use native.Mathlib.Omega.{arith}
 use lib.ListN.{length, drop, length-take, length-drop}
+use Rattle.grammar.specs.Canonical.{spacedPieces}
 use Rattle.grammar.specs.Bytes.{Bytes}
 use Rattle.grammar.proofs.Logic.{below}
 use Rattle.rows.specs.Fields.{field, start, size, Within, Holds}
 use Rattle.rows.specs.Tokens.{writtenOf}
 use Rattle.rows.proofs.Fields.{within}
-use Rattle.canonical_text.specs.Pieces.{before, parts, spacedPieces}
+use Rattle.canonical_text.specs.Pieces.{before, parts}
 use Rattle.canonical_text.specs.Trimming.{leaves, partOf, Trimmable, Trimmed, TrimmedRow}
 use Rattle.canonical_text.proofs.Parts.{before-none, parts-end, parts-next, spaced-next, joined-length}
 

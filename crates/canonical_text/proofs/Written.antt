@@ -7,6 +7,7 @@ use native.Mathlib.Numerals.{add-one}
 use native.Mathlib.Omega.{arith}
 use lib.ListN.{length, take, drop, set, length-append, length-take, length-drop}
 use lib.Seq.{sets, length-sets}
+use Rattle.grammar.specs.Canonical.{spacedPieces, joinPieces}
 use Rattle.grammar.specs.Bytes.{Bytes}
 use Rattle.grammar.specs.Answer.{over}
 use Rattle.byte_strings.specs.Puts.{Put}
@@ -15,7 +16,7 @@ use Rattle.byte_strings.proofs.Puts.{sets-then, sets-over}
 use Rattle.rows.specs.Fields.{start, size, Within}
 use Rattle.rows.specs.Tokens.{writtenOf}
 use Rattle.rows.proofs.Fields.{within}
-use Rattle.canonical_text.specs.Pieces.{pieces, spacedPieces, joinPieces, behind, InText}
+use Rattle.canonical_text.specs.Pieces.{pieces, behind, InText}
 use Rattle.canonical_text.proofs.Parts.{before-none, before-some, parts-end, parts-next}
 
 -- A part with a space and without one.

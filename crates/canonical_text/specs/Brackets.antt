@@ -13,7 +13,7 @@ use Rattle.grammar.specs.Declaration.{declareAll, allTokens}
 use Rattle.grammar.specs.SpanTree.{Position, onLeft, onRight, root, roleOver, Admitted}
 use Rattle.grammar.specs.Tree.{Tree, nothing, leaf, bracket, block, node, flat, spanTree, InnerOk}
 use Rattle.grammar.specs.Canonical.{refuses}
-use Rattle.rows.specs.Fields.{kind, closer, size, arrival, left, field, store, Within, Holds}
+use Rattle.rows.specs.Fields.{kind, closer, size, arrival, field, store, Within, Holds}
 use Rattle.rows.specs.Codes.{roleCode, Fit, Bounded}
 use Rattle.rows.specs.Tokens.{IsAtomKind}
 use Rattle.rows.specs.Agreeing.{Noted}
@@ -57,12 +57,6 @@ pub record TreeAt (K R O : List ℕ) (n : ℕ) (T : Table) (i : ℕ) (t : Tree) 
   pub stands : Stands K R T i t
   pub rooted : Rooted O i t
   pub within : i + length (flat t) ≤ n
-
--- From the root at token `i` one comes to the root at token `h`, bracket pairs looked through.
-pub data Leads (K O : List ℕ) : ℕ → ℕ → Type 0 where
-  there : {h : ℕ} → Within 4 K h → (kind K h ≡ 4 → ⊥) → Leads K O h h
-  through :
-      {i h : ℕ} (j : ℕ) → Within 4 K i → Within 2 O i → kind K i ≡ 4 → left O i ≡ suc j → i < j → Leads K O j h → Leads K O i h
 
 abbrev pub positionOf : Bool → Position
 positionOf true = onRight

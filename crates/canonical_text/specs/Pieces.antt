@@ -1,9 +1,10 @@
 -- Document 01, "Tidy text": "Write the tokens with one space between." Over the parts of the text that the tokens of a row leave.
 use mathlib.Core.Path.{_≡_}
-use mathlib.Core.List.{List, [], _∷_, _++_}
+use mathlib.Core.List.{List, [], _∷_}
 use Prim.Native.Nat.{ℕ, zero, suc, _+_, _≤_, _<_}
 use lib.ListN.{length}
 use Rattle.grammar.specs.Bytes.{Bytes}
+use Rattle.grammar.specs.Canonical.{joinPieces}
 use Rattle.grammar.specs.Answer.{Reading, readingText}
 use Rattle.rows.specs.Fields.{start, size, Holds}
 use Rattle.rows.specs.Tokens.{writtenOf}
@@ -21,15 +22,6 @@ parts part i (suc n) = before (part i) (parts part (suc i) n)
 -- The part that a token leaves is its bytes in the row: nothing where their number is 0.
 abbrev pub pieces : Bytes → List ℕ → ℕ → ℕ → List Bytes
 pieces text K i n = parts (writtenOf text K) i n
-
--- Parts with one space before each, and with one between.
-unfoldable pub spacedPieces : List Bytes → Bytes
-spacedPieces [] = []
-spacedPieces (p ∷ ps) = 32 ∷ p ++ spacedPieces ps
-
-unfoldable pub joinPieces : List Bytes → Bytes
-joinPieces [] = []
-joinPieces (p ∷ ps) = p ++ spacedPieces ps
 
 -- A part as it is written at place `n`: with a space before it if it is not the first.
 unfoldable pub behind : ℕ → Bytes → Bytes

@@ -9,10 +9,10 @@ use lib.ListN.{length, take, drop}
 use Rattle.grammar.specs.Bytes.{Bytes}
 use Rattle.grammar.specs.Fault.{longestText}
 use Rattle.grammar.specs.Token.{quoteByte, isWord, isSign, isSymbol, longestName}
-use Rattle.grammar.specs.Canonical.{strip}
+use Rattle.grammar.specs.Canonical.{strip, joinPieces}
 use Rattle.rows.specs.Fields.{field, store, kind, start, size, prefix, infixed, postfix, Within}
 use Rattle.rows.specs.Tokens.{writtenOf}
-use Rattle.canonical_text.specs.Pieces.{parts, joinPieces, InText}
+use Rattle.canonical_text.specs.Pieces.{parts, InText}
 
 -- The row of roles has a role of token `i`.
 unfoldable pub hasRoles : List ℕ → ℕ → Bool

@@ -8,31 +8,16 @@ use scanner::fronts;
 use scanner::runs;
 ghost use mathlib.Core.Path.{_≡_};
 ghost use Prim.Native.Nat.{ℕ, _+_, _≤_, _<_};
-ghost use lib.ListN.{length, drop};
+ghost use lib.ListN.{length};
 ghost use Rattle.grammar.specs.Token.{isSymbol};
-ghost use Rattle.grammar.specs.Canonical.{strip};
+ghost use Rattle.grammar.specs.Canonical.{joinPieces};
 ghost use Rattle.grammar.specs.Answer.{Reading, over};
 ghost use Rattle.rows.specs.Fields.{Within, Holds};
 ghost use Rattle.rows.specs.Reading.{Ready};
 ghost use Rattle.scanner.specs.Classes.{IsTable};
 ghost use Rattle.byte_strings.specs.Puts.{Put};
-ghost use Rattle.canonical_text.specs.Pieces.{pieces, behind, joinPieces, InText, Prepared};
+ghost use Rattle.canonical_text.specs.Pieces.{pieces, behind, InText, Prepared};
 ghost use Rattle.canonical_text.specs.Trimming.{staysQuoted, IsName, withBytes, Trimmable, Trimmed, TrimmedRow};
-
-// How many leading zeros go: all that stand before another digit.
-fn zeros(digits: &[u8]) -> usize
-    requires { ⌜ 1 ≤ length (now digits) ⌝ }
-    ensures { λ r. ⌜ (r < length (now (digits .entry))) × (drop r (now (digits .entry)) ≡ strip (now (digits .entry))) ⌝ }
-{
-    let mut i: usize = 0;
-    while i + 1 < digits.len() {
-        if digits[i] != b'0' {
-            return i;
-        }
-        i += 1;
-    }
-    i
-}
 
 // Whether the bytes are one word or sign and no keyword.
 fn is_symbol(table: &[u8; 256], name: &[u8]) -> bool
@@ -88,7 +73,7 @@ fn trim_token(table: &[u8; 256], text: &[u8], roles: &[u16], tokens: &mut [u16],
         let start = tokens_row::start(tokens, i);
         let size = tokens_row::size(tokens, i);
         let e = start + size;
-        let z = zeros(&text[start..e]);
+        let z = byte_strings::zeros(&text[start..e]);
         set_bytes(tokens, i, start + z, size - z);
         return;
     }

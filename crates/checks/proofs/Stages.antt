@@ -2,12 +2,12 @@
 use mathlib.Core.Path.{_≡_, refl, sym, ap, _∙_}
 use mathlib.Core.Bool.{Bool, true, false}
 use mathlib.Core.List.{List, [], _∷_}
-use Prim.Native.Nat.{ℕ, zero, suc, _-_, _*_, _≤_, _<_}
+use Prim.Native.Nat.{ℕ, zero, suc, _*_, _≤_, _<_}
 use native.Mathlib.Omega.{arith}
 use lib.Dec.{ltb}
 use lib.ListN.{length}
 use mathlib.Core.Logic.{⊎-elim}
-use borrow.Author.Tests.{ltb-true, ltb-false, lt-ltb, le-ltb, le-leb, eq-eqb, ne-eqb}
+use borrow.Author.Tests.{ltb-true, ltb-false, lt-ltb, le-ltb, le-leb, ne-eqb}
 use Rattle.grammar.proofs.RefusalNumbers.{scan-number, nesting-number, blocks-number}
 use Rattle.grammar.specs.Fault.{longestText, mostTokens}
 use Rattle.grammar.specs.Bytes.{Bytes}
@@ -21,20 +21,10 @@ use Rattle.grammar.proofs.Scanned.{length-tokens}
 use Rattle.grammar.proofs.Logic.{impossible}
 use Rattle.grammar.proofs.BlankTexts.{none-read}
 use Rattle.grammar.proofs.RefusalPlaces.{nesting-place, blocks-place}
-use Rattle.rows.specs.Fields.{kind, start, Holds}
+use Rattle.rows.specs.Fields.{kind, start, firstByte, Holds}
 use Rattle.rows.specs.Tokens.{range, tokenIn, IsAtomKind, Unblocked, Stored}
 use Rattle.rows.proofs.TokenBytes.{token-bytes}
-use Rattle.rows.proofs.Stored.{
-  stored-few,
-  stored-end,
-  stored-tokens,
-  stored-valid,
-  stored-quoted,
-  stored-offset,
-  stored-apart,
-  stored-kinds,
-  stored-kept,
-}
+use Rattle.rows.proofs.Stored.{stored-few, stored-end, stored-tokens, stored-valid, stored-quoted, stored-apart, stored-kinds, stored-kept, stored-byte}
 use Rattle.scanner.specs.Scanning.{Scans}
 use Rattle.scanner.specs.declared.scan.Scanned.{Scanned}
 use Rattle.scanner.specs.declared.scan.Scanned.the-variants as Scan
@@ -143,14 +133,10 @@ blank {text} {K} {R} {O} c K′ r n b h e none = go (scan mostTokens 0 text) ref
         let x : suc (length ps) ≡ n = cc in
         absurd (omega arith)
 
--- What `offsetIn` is, by the kind of the token.
-pub offset-quoted : (text : Bytes) (K : List ℕ) (n i : ℕ) → i < n → kind K i ≡ 3 → offsetIn text K n i ≡ start K i - 1
+-- What `offsetIn` is.
+pub offset-token : (text : Bytes) (K : List ℕ) (n i : ℕ) → i < n → offsetIn text K n i ≡ firstByte K i
 unfolding offsetIn
-offset-quoted text K n i l k = rw (lt-ltb i n l, eq-eqb (kind K i) 3 k, offsetIn)
-
-pub offset-other : (text : Bytes) (K : List ℕ) (n i : ℕ) → i < n → (kind K i ≡ 3 → ⊥) → offsetIn text K n i ≡ start K i
-unfolding offsetIn
-offset-other text K n i l k = rw (lt-ltb i n l, ne-eqb (kind K i) 3 k, offsetIn)
+offset-token text K n i l = rw (lt-ltb i n l, offsetIn)
 
 pub offset-end : (text : Bytes) (K : List ℕ) (n i : ℕ) → n ≤ i → offsetIn text K n i ≡ length text
 unfolding offsetIn
@@ -164,20 +150,9 @@ module _ {text : Bytes} {K R O : List ℕ} {n : ℕ} (t : Tokenized text K R O n
   pub quoted-start : {i : ℕ} → i < n → kind K i ≡ 3 → 1 ≤ start K i
   quoted-start {i} l k = omega (arith, stored-quoted (t .stored) i (here l) k)
 
-  offset-inside : (i : ℕ) → i < n → offsetIn text K n i ≡ offsetOf text (t .placed) i
-  offset-inside i l =
-      by-order (kind K i) 3 (λ a. other (λ z. absurd (omega arith)))
-      (λ a. by-order 3 (kind K i) (λ b. other (λ z. absurd (omega arith))) (λ b. quoted (omega arith)))
-    where
-      quoted : kind K i ≡ 3 → offsetIn text K n i ≡ offsetOf text (t .placed) i
-      quoted k = offset-quoted text K n i l k ∙ omega (arith, stored-quoted (t .stored) i (here l) k)
-
-      other : (kind K i ≡ 3 → ⊥) → offsetIn text K n i ≡ offsetOf text (t .placed) i
-      other k = offset-other text K n i l k ∙ stored-offset (t .stored) i (here l) k
-
   pub offset-in : (i : ℕ) → i ≤ n → offsetIn text K n i ≡ offsetOf text (t .placed) i
   offset-in i l =
-      by-order i n (λ m. offset-inside i m)
+      by-order i n (λ m. offset-token text K n i m ∙ stored-byte (t .stored) i (here m))
       (λ m. let e : i ≡ length (t .placed) = omega (arith, t .counted) in offset-end text K n i m ∙ rw e (sym (stored-end (t .stored))))
 
 -- Checks 6 and 7.

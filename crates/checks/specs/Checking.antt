@@ -2,7 +2,7 @@
 use mathlib.Core.Path.{_≡_}
 use mathlib.Core.Bool.{Bool, true, false}
 use mathlib.Core.List.{List, [], _∷_}
-use Prim.Native.Nat.{ℕ, suc, _+_, _-_, _*_, _≤_, _<_}
+use Prim.Native.Nat.{ℕ, suc, _+_, _*_, _≤_, _<_}
 use lib.Dec.{ltb, eqb}
 use lib.ListN.{length}
 use Rattle.grammar.specs.Fault.{longestText, mostTokens}
@@ -14,7 +14,7 @@ use Rattle.grammar.specs.Declaration.{startTable}
 use Rattle.grammar.specs.Blocks.{checkBlocks}
 use Rattle.grammar.specs.Nodes.{count}
 use Rattle.grammar.specs.Answer.{Reading, tokensOf, readText, lostOffset}
-use Rattle.rows.specs.Fields.{kind, start, Holds}
+use Rattle.rows.specs.Fields.{kind, firstByte, Holds}
 use Rattle.rows.specs.Tokens.{Paired, Stored}
 use Rattle.rows.specs.Agreeing.{Agrees}
 use Rattle.rows.specs.Standing.{mark}
@@ -59,11 +59,7 @@ pub record Classified (text : Bytes) (K R O : List ℕ) (n : ℕ) (nested : Bool
 
 -- The offset of token number `i`; behind the last token stands the end of the text.
 unfoldable pub offsetIn : Bytes → List ℕ → ℕ → ℕ → ℕ
-offsetIn text K n i =
-    elim (ltb i n) [
-      | true ↦ elim (eqb (kind K i) 3) [ true ↦ start K i - 1 | false ↦ start K i ]
-      | false ↦ length text
-    ]
+offsetIn text K n i = elim (ltb i n) [ true ↦ firstByte K i | false ↦ length text ]
 
 -- What is answered of a text that is read: that it is blank; or the number of tokens, that of nodes and the root, with the rows of the
 -- reading.

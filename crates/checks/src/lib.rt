@@ -3,7 +3,6 @@ use climb::spans;
 use climb::spans::Spans;
 use pairing::Paired;
 use resolving::Resolved;
-use rows::kinds;
 use rows::tokens as row;
 use scanner::classes;
 use scanner::scan;
@@ -40,10 +39,7 @@ fn offset_of(text: &[u8], tokens: &[u16], count: usize, i: usize) -> usize
     ensures { λ r. ⌜ r ≡ offsetIn (now (text .entry)) (now (tokens .entry)) count i ⌝ }
 {
     if i < count {
-        if row::kind(tokens, i) == kinds::QUOTED {
-            return row::start(tokens, i) - 1;
-        }
-        return row::start(tokens, i);
+        return row::offset(tokens, i);
     }
     text.len()
 }

@@ -122,9 +122,9 @@ module _ (f : Fixity) (a : Associativity) (d : Bytes) (ts : List Token) (p : ℕ
 -- What the code answers is made of the numbers that were read.
 pub role-said :
     (v w d : Bytes) (f a p : ℕ) → f ≡ fixityNumber v → (f ≡ 0 → ⊥) → a ≡ associativityNumber f w → (a ≡ 0 → ⊥)
-    → p ≡ precedenceCode d → (p ≡ 0 → ⊥) → {place from : ℕ} → place ≡ from
-    → Role f (a + p) place ≡ Role (fixityCode (fixityOf f)) (sideCode (sideOf a) + value d) from
-role-said v w d f a p ef nf ea na ep np e =
+    → p ≡ precedenceCode d → (p ≡ 0 → ⊥) → {place end from to : ℕ} → place ≡ from → end ≡ to
+    → Role f (a + p) place end ≡ Role (fixityCode (fixityOf f)) (sideCode (sideOf a) + value d) from to
+role-said v w d f a p ef nf ea na ep np b e =
     let f′ : fixityCode (fixityOf f) ≡ f =
     ap (λ f. fixityCode (fixityOf f)) ef ∙ fixity-number v .back (λ z. nf (ef ∙ z)) ∙ sym ef
     in

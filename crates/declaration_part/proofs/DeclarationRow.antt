@@ -6,43 +6,28 @@ use mathlib.Core.List.{List, [], _∷_}
 use Prim.Native.Nat.{ℕ, suc, _+_, _-_, _≤_, _<_}
 use native.Mathlib.Numerals.{add-one}
 use native.Mathlib.Omega.{arith}
-use lib.ListN.{length, take, drop, length-take, length-drop}
+use lib.ListN.{length, take, drop}
 use Rattle.grammar.specs.Bytes.{Bytes}
-use Rattle.grammar.specs.Token.{Token, isBlankByte, isStructure, structureNumber}
+use Rattle.grammar.specs.Token.{Token, isStructure, structureNumber}
 use Rattle.grammar.specs.Scan.{Placed}
 use Rattle.grammar.specs.Coded.{tokenOf}
 use Rattle.grammar.specs.Answer.{offsetOf}
 use Rattle.grammar.specs.Declaration as D
 use Rattle.grammar.specs.Declaration.{Declaration, unfit, parsed, symbolOf, isSemicolon, closed, operatorPart, declaration}
 use Rattle.grammar.proofs.Logic.{clash}
-use Rattle.byte_strings.proofs.Suffixes.{run-within}
 use Rattle.rows.specs.Fields.{kind, start, size}
 use Rattle.rows.specs.Tokens.{writtenOf, tokenIn, tokensIn, range, Stored}
 use Rattle.rows.proofs.Ranges.{range-next}
-use Rattle.rows.proofs.Stored.{stored-kind, stored-offset, stored-written, stored-next}
+use Rattle.rows.proofs.Stored.{stored-kind, stored-offset}
 use Rattle.declaration_part.specs.declared.parse.Parsed.{Parsed}
 use Rattle.declaration_part.specs.declared.parse.Parsed.the-variants.{Unfit}
-use Rattle.declaration_part.specs.Parsing.{nextPlace, Parses}
+use Rattle.scanner.specs.Places.{tokenEnd}
+use Rattle.declaration_part.specs.Walking.{Next}
+use Rattle.declaration_part.specs.Parsing.{Parses}
 use Rattle.declaration_part.specs.Parts.{stands, writtenFrom, operatorEnd}
 use Rattle.declaration_part.proofs.Parts.{stands-here, stands-cases, standing, from-here, from-none, end-operator, end-semicolon, end-behind}
+use Rattle.declaration_part.proofs.TokenPlaces.{ends-there, next-there}
 use Rattle.declaration_part.proofs.DeclarationParts.{Refuses, operator-refuses, closed-refuses}
-
--- What is read at a place of the text ends in the text, and so do the blanks behind it.
-module _ (k : ℕ) (text : Bytes) (K : List ℕ) (at to place : ℕ) (h : place ≤ length text) where
-  read-within : place + length (writtenFrom k text K at to place) ≤ length text
-  read-within = go (stands k K at to) refl
-    where
-      go : (b : Bool) → stands k K at to ≡ b → place + length (writtenFrom k text K at to place) ≤ length text
-      go true s = rw (from-here k K at to text place s) (simp (length-take, length-drop) (omega arith))
-      go false s = rw (from-none k K at to text place s) (omega arith)
-
-  pub next-within :
-      (w : Bytes) → w ≡ writtenFrom k text K at to place
-      → (length w ≤ length text) × (nextPlace text place (length w) ≤ length text)
-  unfolding nextPlace
-  next-within w e =
-      let r : place + length w ≤ length text = rw e read-within in
-      (omega arith, run-within isBlankByte text (place + length w) r)
 
 module _ {text : Bytes} {ps : List Placed} {K : List ℕ} (v : Stored text ps K) (from to : ℕ) (h : to < length ps) where
   range-end : (at : ℕ) → to ≤ at → range text K at to ≡ []
@@ -69,16 +54,11 @@ module _ {text : Bytes} {ps : List Placed} {K : List ℕ} (v : Stored text ps K)
       ∙ ap (λ j. tokenOf j (writtenOf text K at) ∷ range text K (suc at) to) (p .1)
       ∙ ap (λ n. tokenOf k (writtenOf text K at) ∷ range text K n to) (sym (add-one at))
 
-  -- Behind a word or a number begins the next token, and where it is no quoted name, its bytes.
-  next-start : (at : ℕ) → at + 1 < length ps → kind K at < 3 → (kind K (at + 1) ≡ 3 → ⊥) → nextPlace text (start K at) (size K at) ≡ start K (at + 1)
-  unfolding nextPlace
-  next-start at l d q =
-      sym (stored-offset v (at + 1) l q ∙ ap (offsetOf text ps) (add-one at) ∙ stored-next v at (omega arith) (λ m o. omega arith))
-
-  -- The declaration is what a part makes of the tokens from number `at` on, the first of which begins at `place`.
-  pub record Gone (part : List Token → D.Parsed) (at place : ℕ) : Type 0 where
+  -- The declaration is what a part makes of the tokens from number `at` on, the first of which stands from `place` to `end`.
+  pub record Gone (part : List Token → D.Parsed) (at place end : ℕ) : Type 0 where
     pub goes : declaration (range text K from to) ≡ part (range text K at to)
     pub begins : at < to → (kind K at ≡ 3 → ⊥) → place ≡ start K at
+    pub ends : end ≡ tokenEnd text place
 
   -- What the code answers agrees with the declaration.
   abbrev pub Answered : Parsed → Type 0
@@ -87,13 +67,21 @@ module _ {text : Bytes} {ps : List Placed} {K : List ℕ} (v : Stored text ps K)
   unfit-at : (n at : ℕ) → at ≡ from + n → declaration (range text K from to) ≡ unfit n → Answered (Unfit at)
   unfit-at n at a e = subst (λ p. Parses K from p (Unfit at)) (sym e) (ap Unfit a)
 
-  module _ {part : List Token → D.Parsed} {at place : ℕ} (g : Gone part at place) where
-    module _ (k : ℕ) (d : k < 3) (w : Bytes) (e : w ≡ writtenFrom k text K at to place) where
-      begins-here : stands k K at to ≡ true → place ≡ start K at
-      begins-here s = let p = standing k K at to s in g .begins (p .0) (λ q. omega (arith, p .1))
+  module _ {part : List Token → D.Parsed} {at place end : ℕ} (g : Gone part at place end) where
+    module _ (k : ℕ) (d : k < 3) (s : stands k K at to ≡ true) where
+      pub begins-here : place ≡ start K at
+      begins-here = let p = standing k K at to s in g .begins (p .0) (λ q. omega (arith, p .1))
 
+      pub ends-here : end ≡ start K at + size K at
+      ends-here =
+          let p = standing k K at to s in
+          g .ends ∙ ends-there v at (omega arith) (λ q. omega (arith, p .1)) begins-here
+
+    module _ (k : ℕ) (d : k < 3) (w : Bytes) (e : w ≡ writtenFrom k text K at to place end) where
       written-here : stands k K at to ≡ true → w ≡ writtenOf text K at
-      written-here s = e ∙ from-here k K at to text place s ∙ ap (λ x. take (size K at) (drop x text)) (begins-here s)
+      written-here s =
+          let n : end - place ≡ size K at = omega (arith, begins-here k d s, ends-here k d s) in
+          e ∙ from-here k K at to text place end s ∙ ap₂ (λ n x. take n (drop x text)) n (begins-here k d s)
 
       read-here : stands k K at to ≡ true → range text K at to ≡ tokenOf k w ∷ range text K (at + 1) to
       read-here s = here-at k at s ∙ ap (λ c. tokenOf k c ∷ range text K (at + 1) to) (sym (written-here s))
@@ -113,26 +101,22 @@ module _ {text : Bytes} {ps : List Placed} {K : List ℕ} (v : Stored text ps K)
           where
             go : (b : Bool) → stands k K at to ≡ b → stands k K at to ≡ true
             go true s = s
-            go false s = absurd (n (e ∙ from-none k K at to text place s))
-
-        pub size-here : length w ≡ size K at
-        size-here = let p = standing k K at to some-here in ap length (written-here some-here) ∙ stored-written v at (omega arith)
-
-        pub within-here : at < to
-        within-here = standing k K at to some-here .0
+            go false s = absurd (n (e ∙ from-none k K at to text place end s))
 
         pub read-on :
-            (next place′ : ℕ) → next ≡ at + 1 → place′ ≡ nextPlace text place (length w) → {further : List Token → D.Parsed}
-            → ((ts : List Token) → part (tokenOf k w ∷ ts) ≡ further ts) → Gone further next place′
-        read-on next place′ a b {further} f =
+            (next place′ end′ : ℕ) → next ≡ at + 1 → Next text end place′ end′ → {further : List Token → D.Parsed}
+            → ((ts : List Token) → part (tokenOf k w ∷ ts) ≡ further ts) → Gone further next place′ end′
+        read-on next place′ end′ a b {further} f =
             let p = standing k K at to some-here in
+            let n : next ≡ suc at = omega arith in
             record {
               goes = g .goes ∙ ap part (read-here some-here) ∙ f _ ∙ ap (λ m. further (range text K m to)) (sym a);
               begins = λ l q.
-                  b
-                  ∙ ap₂ (nextPlace text) (begins-here some-here) size-here
-                  ∙ next-start at (omega arith) (omega (arith, p .1)) (λ z. q (ap (kind K) a ∙ z))
-                  ∙ ap (start K) (sym a);
+                  b .0
+                  ∙ next-there v at (omega arith) (λ z. omega (arith, p .1)) (ends-here k d some-here)
+                  ∙ ap (offsetOf text ps) (sym n)
+                  ∙ sym (stored-offset v next (omega arith) q);
+              ends = b .1;
             }
 
   -- The end of a declaration: the operator and its `;`.
@@ -160,7 +144,7 @@ module _ {text : Bytes} {ps : List Placed} {K : List ℕ} (v : Stored text ps K)
             bare (end-semicolon K at to s z) (operator-here s ∙ refused-at (closed-refuses (suc i) (make _)) (at + 1) z)
         go true true s z = whole (end-behind K at to s z) s (operator-here s ∙ closed-here (make _) (at + 1) z)
 
-    module _ {place : ℕ} (g : Gone (operatorPart i make) at place) (e : ℕ) (n : e ≡ operatorEnd K at to) where
+    module _ {place end : ℕ} (g : Gone (operatorPart i make) at place end) (e : ℕ) (n : e ≡ operatorEnd K at to) where
       pub operator-unfit : at ≡ from + i → e < at + 2 → Answered (Unfit e)
       operator-unfit a l =
           operator-cases
@@ -170,15 +154,15 @@ module _ {text : Bytes} {ps : List Placed} {K : List ℕ} (v : Stored text ps K)
 
       -- The code's answer has to agree with a declaration of some operator.
       pub operator-given :
-          at + 2 ≤ e → (r : Parsed) → (place ≡ start K at → (m : Bytes) (rest : List Token) → Parses K from (parsed (make m) rest) r)
+          at + 2 ≤ e → (r : Parsed)
+          → (place ≡ start K at → end ≡ start K at + size K at → (m : Bytes) (rest : List Token) → Parses K from (parsed (make m) rest) r)
           → Answered r
       operator-given l r says =
           operator-cases
           (λ z u. absurd (omega arith))
           (λ z u. absurd (omega arith))
           (λ z s u.
-          let p = standing 1 K at to s in
           subst
           (λ p. Parses K from p r)
           (sym (g .goes ∙ u))
-          (says (g .begins (p .0) (λ q. omega (arith, p .1))) (writtenOf text K at) (range text K (at + 1 + 1) to)))
+          (says (begins-here g 1 (omega arith) s) (ends-here g 1 (omega arith) s) (writtenOf text K at) (range text K (at + 1 + 1) to)))

@@ -1,3 +1,4 @@
+pub mod TokenPlaces
 pub mod Held
 pub mod Precedences
 pub mod Words

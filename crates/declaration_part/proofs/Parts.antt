@@ -3,13 +3,13 @@
 use mathlib.Core.Path.{_≡_, refl}
 use mathlib.Core.Bool.{Bool, true, false}
 use mathlib.Core.List.{List, []}
-use Prim.Native.Nat.{ℕ, _+_, _≤_, _<_}
+use Prim.Native.Nat.{ℕ, _+_, _-_, _≤_, _<_}
 use lib.Dec.{eqb, leb}
 use lib.ListN.{take, drop}
 use borrow.Author.Tests.{le-leb, lt-leb, eq-eqb, ne-eqb, eqb-true, eqb-false, leb-true, leb-false}
 use Rattle.grammar.specs.Bytes.{Bytes}
 use Rattle.grammar.proofs.Logic.{clash}
-use Rattle.rows.specs.Fields.{kind, size}
+use Rattle.rows.specs.Fields.{kind}
 use Rattle.declaration_part.specs.Parts.{stands, writtenFrom, operatorEnd}
 
 module _ (k : ℕ) (K : List ℕ) (at to : ℕ) where
@@ -40,12 +40,12 @@ module _ (k : ℕ) (K : List ℕ) (at to : ℕ) where
   standing s =
       stands-cases (λ h. absurd (clash s (stands-end h))) (λ h e. (h, e)) (λ h n. absurd (clash s (stands-other h n)))
 
-  module _ (text : Bytes) (place : ℕ) where
-    pub from-here : stands k K at to ≡ true → writtenFrom k text K at to place ≡ take (size K at) (drop place text)
+  module _ (text : Bytes) (start end : ℕ) where
+    pub from-here : stands k K at to ≡ true → writtenFrom k text K at to start end ≡ take (end - start) (drop start text)
     unfolding writtenFrom
     from-here s = rw (s, writtenFrom)
 
-    pub from-none : stands k K at to ≡ false → writtenFrom k text K at to place ≡ []
+    pub from-none : stands k K at to ≡ false → writtenFrom k text K at to start end ≡ []
     unfolding writtenFrom
     from-none s = rw (s, writtenFrom)
 

@@ -8,14 +8,25 @@ ghost use Prim.Native.Nat.{_≤_};
 ghost use Rattle.grammar.specs.Declaration.{declaration};
 ghost use Rattle.rows.specs.Fields.{Holds};
 ghost use Rattle.rows.specs.Tokens.{range};
+ghost use Rattle.scanner.specs.Classes.{IsTable};
 ghost use Rattle.declaration_part.specs.Parsing.{precedenceCode, fixityNumber, associativityNumber, Parses, Parsable};
-ghost use Rattle.declaration_part.specs.Parts.{writtenFrom, operatorEnd};
+ghost use Rattle.declaration_part.specs.Parts.{IsPart, writtenFrom, operatorEnd};
 
-// A role for an operator, or a `plain` declaration, with the operator's offset; or the first token that does not fit.
+// A role for an operator, or a `plain` declaration, with where the operator begins and ends; or the first token that does not fit.
 pub enum Parsed {
-    Unfit { at: usize },
-    Role { fixity: u8, role: u16, place: usize },
-    Clears { place: usize },
+    Unfit {
+        at: usize,
+    },
+    Role {
+        fixity: u8,
+        role: u16,
+        start: usize,
+        end: usize,
+    },
+    Clears {
+        start: usize,
+        end: usize,
+    },
 }
 
 // The precedence that digits name, 0 if it is outside 1 to 1200.
@@ -104,24 +115,31 @@ fn unfit_end(tokens: &[u16], at: usize, to: usize) -> usize
     at + 2
 }
 
-// The word at token `at`, which begins at `place`; none where no word stands.
-fn word_of<'a>(text: &'a [u8], tokens: &[u16], at: usize, to: usize, place: usize) -> &'a [u8]
-    requires { ⌜ Holds 4 (now tokens) to ⌝ }
-    ensures { λ r. ⌜ now r ≡ writtenFrom 1 (now (text .entry)) (now (tokens .entry)) at to place ⌝ }
+// The word at token `at`, from `start` to `end`; none where no word stands.
+fn word_of<'a>(
+    text: &'a [u8],
+    tokens: &[u16],
+    at: usize,
+    to: usize,
+    start: usize,
+    end: usize,
+) -> &'a [u8]
+    requires { ⌜ Holds 4 (now tokens) to × IsPart (now text) start end ⌝ }
+    ensures { λ r. ⌜ now r ≡ writtenFrom 1 (now (text .entry)) (now (tokens .entry)) at to start end ⌝ }
 {
     if to <= at {
-        return walk::token_at(text, 0, 0);
+        return &text[0..0];
     }
     if row::kind(tokens, at) != kinds::SYMBOL {
-        return walk::token_at(text, 0, 0);
+        return &text[0..0];
     }
-    walk::token_at(text, place, row::size(tokens, at))
+    &text[start..end]
 }
 
-// The precedence at token `at`, which begins at `place`; 0 where none stands.
-fn precedence_of(text: &[u8], tokens: &[u16], at: usize, to: usize, place: usize) -> u16
-    requires { ⌜ Holds 4 (now tokens) to ⌝ }
-    ensures { λ r. ⌜ r ≡ precedenceCode (writtenFrom 2 (now (text .entry)) (now (tokens .entry)) at to place) ⌝ }
+// The precedence at token `at`, from `start` to `end`; 0 where none stands.
+fn precedence_of(text: &[u8], tokens: &[u16], at: usize, to: usize, start: usize, end: usize) -> u16
+    requires { ⌜ Holds 4 (now tokens) to × IsPart (now text) start end ⌝ }
+    ensures { λ r. ⌜ r ≡ precedenceCode (writtenFrom 2 (now (text .entry)) (now (tokens .entry)) at to start end) ⌝ }
 {
     if to <= at {
         return 0;
@@ -129,34 +147,43 @@ fn precedence_of(text: &[u8], tokens: &[u16], at: usize, to: usize, place: usize
     if row::kind(tokens, at) != kinds::NUMBER {
         return 0;
     }
-    precedence(walk::token_at(text, place, row::size(tokens, at)))
+    precedence(&text[start..end])
 }
 
-// The declaration at token `from`, which begins at `place`, of a part that ends before token `to`.
-pub fn declaration_at(text: &[u8], tokens: &[u16], from: usize, to: usize, place: usize) -> Parsed
-    requires { ⌜ Parsable (now text) (now tokens) from to place ⌝ }
+// The declaration at token `from` of a part that ends before token `to`. The `let` or `;` before it is the first token from offset `before` on.
+pub fn declaration_at<'a>(
+    table: &'a [u8; 256],
+    text: &'a [u8],
+    tokens: &[u16],
+    from: usize,
+    to: usize,
+    before: usize,
+) -> Parsed
+    requires { ⌜ IsTable (now table) × Parsable (now text) (now tokens) from to before ⌝ }
     ensures { λ r. ⌜ Parses (now (tokens .entry)) from (declaration (range (now (text .entry)) (now (tokens .entry)) from to)) r ⌝ }
 {
-    let word = word_of(text, tokens, from, to, place);
-    let second = walk::next_at(text, place, word.len());
+    let p = walk::find_places(table, text, before);
+    let word = word_of(text, tokens, from, to, p.first, p.first_end);
     if byte_strings::equal(word, b"plain") {
         let e = unfit_end(tokens, from + 1, to);
         if e < from + 3 {
             return Parsed::Unfit { at: e };
         }
-        return Parsed::Clears { place: second };
+        return Parsed::Clears {
+            start: p.second,
+            end: p.second_end,
+        };
     }
     let fixity = fixity_named(word);
     if fixity == NONE {
         return Parsed::Unfit { at: from };
     }
-    let side = word_of(text, tokens, from + 1, to, second);
+    let side = word_of(text, tokens, from + 1, to, p.second, p.second_end);
     let associativity = associativity_named(fixity, side);
     if associativity == NO_SIDE {
         return Parsed::Unfit { at: from + 1 };
     }
-    let third = walk::next_at(text, second, side.len());
-    let level = precedence_of(text, tokens, from + 2, to, third);
+    let level = precedence_of(text, tokens, from + 2, to, p.third, p.third_end);
     if level == 0 {
         return Parsed::Unfit { at: from + 2 };
     }
@@ -167,6 +194,7 @@ pub fn declaration_at(text: &[u8], tokens: &[u16], from: usize, to: usize, place
     Parsed::Role {
         fixity,
         role: associativity + level,
-        place: walk::next_at(text, third, row::size(tokens, from + 2)),
+        start: p.fourth,
+        end: p.fourth_end,
     }
 }

@@ -1,55 +1,61 @@
-// A declaration part is walked token by token: a struct holds the text and the position of a token, and each function over it calls a
-// function over plain bytes on the two.
+// A declaration part is walked token by token: a struct holds the text and where the current token begins and ends, and moves by calling
+// functions of the scanner on slice and number.
+use scanner::runs;
 ghost use mathlib.Core.Path.{_≡_};
-ghost use Prim.Native.Nat.{_≤_};
-ghost use lib.ListN.{take, drop};
-ghost use Rattle.declaration_part.specs.Parsing.{nextPlace};
+ghost use Rattle.scanner.specs.Classes.{IsTable};
+ghost use Rattle.declaration_part.specs.Walking.{Next, Walked};
 
 pub struct Walk<'a> {
     pub text: &'a [u8],
     pub at: usize,
+    pub end: usize,
 }
 
-pub fn new<'a>(text: &'a [u8], at: usize) -> Walk<'a>
-    ensures { λ r. ⌜ (r .text ≡ text .entry) × (r .at ≡ at) ⌝ }
+pub fn new<'a>(text: &'a [u8], at: usize, end: usize) -> Walk<'a>
+    ensures { λ r. ⌜ (r .text ≡ text .entry) × (r .at ≡ at) × (r .end ≡ end) ⌝ }
 {
-    Walk { text, at }
+    Walk { text, at, end }
 }
 
-// Where the token behind `n` bytes at `at` begins.
-fn offset_behind(text: &[u8], at: usize, n: usize) -> usize
-    requires { ⌜ (at ≤ 65535) × (n ≤ 65535) ⌝ }
-    ensures { λ r. ⌜ r ≡ nextPlace (now (text .entry)) at n ⌝ }
+// The reader at the next token.
+pub fn behind<'a>(w: Walk<'a>, table: &'a [u8; 256]) -> Walk<'a>
+    requires { ⌜ IsTable (now table) ⌝ }
+    ensures { λ r. ⌜ (r .text ≡ w .entry .text) × Next (now (w .entry .text)) (w .entry .end) (r .at) (r .end) ⌝ }
 {
-    byte_strings::blank_end(text, at + n)
+    let at = runs::blanks_end(table, w.text, w.end);
+    new(w.text, at, runs::token_end(table, w.text, at))
 }
 
-// The reader behind the current token, which has `n` bytes.
-pub fn behind<'a>(w: Walk<'a>, n: usize) -> Walk<'a>
-    requires { ⌜ (w .at ≤ 65535) × (n ≤ 65535) ⌝ }
-    ensures { λ r. ⌜ (r .text ≡ w .entry .text) × (r .at ≡ nextPlace (now (w .entry .text)) (w .entry .at) n) ⌝ }
-{
-    new(w.text, offset_behind(w.text, w.at, n))
+// Where the four tokens behind a `let` or a `;` begin and end.
+pub struct Places {
+    pub first: usize,
+    pub first_end: usize,
+    pub second: usize,
+    pub second_end: usize,
+    pub third: usize,
+    pub third_end: usize,
+    pub fourth: usize,
+    pub fourth_end: usize,
 }
 
-// The `n` bytes of the current token.
-pub fn token<'a>(w: Walk<'a>, n: usize) -> &'a [u8]
-    ensures { λ r. ⌜ now r ≡ take n (drop (w .entry .at) (now (w .entry .text))) ⌝ }
+// The places of the tokens of a declaration, whose `let` or `;` is the first token from `at` on.
+pub fn find_places<'a>(table: &'a [u8; 256], text: &'a [u8], at: usize) -> Places
+    requires { ⌜ IsTable (now table) ⌝ }
+    ensures { λ r. ⌜ Walked (now (text .entry)) at r ⌝ }
 {
-    byte_strings::cut(w.text, w.at, n)
-}
-
-// The same with plain parameters: the token at `at`, and where the one behind it begins.
-pub fn token_at<'a>(text: &'a [u8], at: usize, n: usize) -> &'a [u8]
-    ensures { λ r. ⌜ now r ≡ take n (drop at (now (text .entry))) ⌝ }
-{
-    token(new(text, at), n)
-}
-
-pub fn next_at(text: &[u8], at: usize, n: usize) -> usize
-    requires { ⌜ (at ≤ 65535) × (n ≤ 65535) ⌝ }
-    ensures { λ r. ⌜ r ≡ nextPlace (now (text .entry)) at n ⌝ }
-{
-    let w = behind(new(text, at), n);
-    w.at
+    let opener = behind(new(text, at, at), table);
+    let first = behind(opener, table);
+    let second = behind(first, table);
+    let third = behind(second, table);
+    let fourth = behind(third, table);
+    Places {
+        first: first.at,
+        first_end: first.end,
+        second: second.at,
+        second_end: second.end,
+        third: third.at,
+        third_end: third.end,
+        fourth: fourth.at,
+        fourth_end: fourth.end,
+    }
 }

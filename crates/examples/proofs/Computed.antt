@@ -36,13 +36,13 @@ computed :
     × (map Limits.given limits ≡ map Limits.asked limits)
 unfolding Answer.tokensOf Answer.startsOf Answer.offsetOf Answer.spanOffset Answer.readingTree Answer.readSpans Answer.readTokens
     Answer.readText
-    Answer.rejection Answer.success Answer.over Answer.readingWords Answer.readInto Answer.read Answer.readingText
-    Answer.writeInto Answer.canonicalizeInto Answer.canonicalize Blocks.bodyTable Blocks.checkItem Blocks.checkItems
+    Answer.rejection Answer.success Answer.over Answer.answered Answer.readingWords Answer.nodesInto Answer.read Answer.readingText
+    Answer.bytesThat Answer.textInto Answer.canonicalize Blocks.bodyTable Blocks.checkItem Blocks.checkItems
     Blocks.checkBlocks Blocks.itemSpans Blocks.allItemSpans Blocks.spans Blocks.firstWithout Blocks.treelessOpener
     Blocks.underBracket Blocks.underBlock Blocks.underOperator Blocks.hangItem Blocks.hang Blocks.hangFound Blocks.treeIn
     Blocks.treeOf Bytes.same Bytes.member Bytes.every Bytes.isEmpty Canonical.withoutZeros Canonical.orZero Canonical.strip
-    Canonical.stripDeclaration Canonical.writtenName Canonical.writtenAtom Canonical.fitted Canonical.canonical Canonical.spaced
-    Canonical.joinTokens Canonical.canonicalText Climb.symbolAt Climb.firstRole Climb.leftRole Climb.givesWay Climb.pushed
+    Canonical.stripDeclaration Canonical.writtenName Canonical.writtenAtom Canonical.fitted Canonical.canonical Canonical.spacedPieces
+    Canonical.joinPieces Canonical.joinTokens Canonical.canonicalText Climb.symbolAt Climb.firstRole Climb.leftRole Climb.givesWay Climb.pushed
     Climb.closed Climb.taking Climb.takes Climb.admitsPrefix Climb.bears Climb.fitsLeft Climb.fitsBelow Climb.arrives Climb.arrived Climb.operandStep
     Climb.operatorStep Climb.advance Climb.postfixLast Climb.finish Climb.ending Climb.climbFrom Climb.unread Climb.search Climb.treeFound Climb.climb Coded.kindOf Coded.tokenOf
     Declaration.valueFrom Declaration.value Declaration.declare Declaration.declareAll
@@ -51,7 +51,7 @@ unfolding Answer.tokensOf Answer.startsOf Answer.offsetOf Answer.spanOffset Answ
     Declaration.isSemicolon Declaration.fixityNamed Declaration.associativityNamed Declaration.closed Declaration.operatorPart
     Declaration.precedencePart Declaration.associativityFor Declaration.associativityPart Declaration.firstWord
     Declaration.declaration Declaration.operatorPlace Declaration.operatorOf Declaration.isReserved Declaration.checkedAt
-    Declaration.hasRoom Declaration.enter
+    Declaration.hasRoom Declaration.enterWith
     Declaration.declarationsOf Declaration.declarations Listing.decimalIn Listing.decimal Listing.kindNames Listing.field
     Listing.nodeLines Listing.refusalLine Listing.canonicalLines Listing.readingLines Listing.listingOf Listing.listing
     Nesting.outermost Nesting.within Nesting.move Nesting.closeInnermost Nesting.nesting Nodes.leafKind Nodes.writtenOffset

@@ -1,4 +1,4 @@
--- The answers of both services by the definitions: their numbers, and what a refusal leaves in the lent buffer.
+-- The answers of the services by the definitions: their numbers, and what a refusal leaves in the lent buffer.
 use mathlib.Core.Path.{_≡_, refl}
 use mathlib.Core.Logic.{_⊎_, inl, inr, ⊎-elim}
 use mathlib.Core.Bool.{Bool, true, false, _&&_}
@@ -30,13 +30,15 @@ use Rattle.grammar.specs.Answer.{
   readTokens,
   readText,
   readingWords,
-  readInto,
+  nodesInto,
   read,
   readingText,
-  writeInto,
-  canonicalizeInto,
+  bytesThat,
+  textInto,
   canonicalize,
   Result,
+  Written,
+  answered,
 }
 use Rattle.grammar.proofs.Operands.{Operated, words-length}
 use Rattle.grammar.proofs.ReadingTrees.{reading-operated}
@@ -106,15 +108,36 @@ over-length : (w b : List ℕ) → length w ≤ length b → length (over w b) �
 unfolding over
 over-length w b h = simp (length-append, length-drop) (omega arith)
 
-rejection-proper : (b : List ℕ) (most n p : ℕ) → (n ≤ most) ⊎ (n ≡ 17) → Proper b most (record { answer = rejection n p; buffer = b })
-unfolding rejection
-rejection-proper b most n p h = record { known = h; unchanged = λ z. refl; nothingCounted = λ z. refl; sameLength = refl }
+-- So it is of every service that gives numbers up to `most`, or 17, and writes no more than the buffer holds.
+module _ (b : List ℕ) (most : ℕ) where
+  abbrev UpTo : ℕ → Type 0
+  UpTo n = (n ≤ most) ⊎ (n ≡ 17)
 
-success-proper :
-    (b : List ℕ) (most c : ℕ) (w : List ℕ) → length w ≤ length b → Proper b most (record { answer = success c; buffer = over w b })
-unfolding success
-success-proper b most c w h =
-    record { known = inl (omega arith); unchanged = λ z. absurd (z refl); nothingCounted = λ z. absurd (z refl); sameLength = over-length w b h }
+  abbrev Fitting : Outcome Written → Type 0
+  Fitting (refused n p) = Unit {0}
+  Fitting (passed w) = length (w .contents) ≤ length b
+
+  abbrev Given : Outcome Written → Type 0
+  Given o = Numbered UpTo o × Fitting o
+
+  answered-proper : (o : Outcome Written) → Numbered UpTo o → Fitting o → Proper b most (answered b o)
+  unfolding answered rejection success
+  answered-proper (refused n p) h f = record { known = h; unchanged = λ z. refl; nothingCounted = λ z. refl; sameLength = refl }
+  answered-proper (passed w) h f =
+      record {
+        known = inl (omega arith);
+        unchanged = λ z. absurd (z refl);
+        nothingCounted = λ z. absurd (z refl);
+        sameLength = over-length (w .contents) b f;
+      }
+
+  -- Behind checks 1 to 11 and 17.
+  checked-proper :
+      (give : Reading → Outcome Written) (o : Outcome Reading) → Numbered OfChecks o → 11 ≤ most
+      → ((r : Reading) → o ≡ passed r → Given (give r)) → Proper b most (answered b (andThen o give))
+  unfolding andThen
+  checked-proper give (refused n p) h l f = answered-proper (refused n p) (⊎-elim (λ k. inl (omega arith)) inr h) tt
+  checked-proper give (passed r) h l f = answered-proper (give r) (f r refl .0) (f r refl .1)
 
 words-fit :
     (text : Bytes) (r : Reading) (b : List ℕ) → Operated (r .tree) → wordsPerNode * count (r .tree) ≤ length b
@@ -122,39 +145,31 @@ words-fit :
 unfolding readingWords
 words-fit text r b q h = rw (words-length (offsetOf text (r .tokens)) startTable (r .tree) 0 0 q) h
 
-readInto-proper :
-    (text : Bytes) (b : List ℕ) (o : Outcome Reading) → Numbered OfChecks o → ((r : Reading) → o ≡ passed r → Operated (r .tree))
-    → Proper b 12 (readInto text b o)
-unfolding readInto
-readInto-proper text b (refused n p) h q = rejection-proper b 12 n p (⊎-elim (λ k. inl (omega arith)) inr h)
-readInto-proper text b (passed r) h q = go (leb (wordsPerNode * count (r .tree)) (length b)) refl
+nodes-given : (text : Bytes) (b : List ℕ) (r : Reading) → Operated (r .tree) → Given b 12 (nodesInto text b r)
+unfolding nodesInto
+nodes-given text b r q = go (leb (wordsPerNode * count (r .tree)) (length b)) refl
   where
-    go : (t : Bool) → leb (wordsPerNode * count (r .tree)) (length b) ≡ t → Proper b 12 (readInto text b (passed r))
-    go true e = rw (e, readInto) (success-proper b 12 (count (r .tree)) (readingWords text r) (words-fit text r b (q r refl) (leb-true _ _ e)))
-    go false e = rw (e, readInto) (rejection-proper b 12 12 0 (inl (omega arith)))
+    go : (t : Bool) → leb (wordsPerNode * count (r .tree)) (length b) ≡ t → Given b 12 (nodesInto text b r)
+    go true e = rw (e, nodesInto) (tt, words-fit text r b q (leb-true _ _ e))
+    go false e = rw (e, nodesInto) (inl (omega arith), tt)
 
-writeInto-proper : (b : List ℕ) (text : Bytes) → Proper b 13 (writeInto b text)
-unfolding writeInto
-writeInto-proper b text = go (leb (length text) (length b) && leb (length text) longestText) refl
-  where
-    go : (t : Bool) → leb (length text) (length b) && leb (length text) longestText ≡ t → Proper b 13 (writeInto b text)
-    go true e =
-        rw (e, writeInto)
-        (success-proper b 13 (length text) text
-        (leb-true (length text) (length b) (and-left (leb (length text) (length b)) (leb (length text) longestText) e)))
-    go false e = rw (e, writeInto) (rejection-proper b 13 13 0 (inl (omega arith)))
-
-canonicalizeInto-proper : (b : List ℕ) (o : Outcome Reading) → Numbered OfChecks o → Proper b 13 (canonicalizeInto b o)
-unfolding canonicalizeInto
-canonicalizeInto-proper b (refused n p) h = rejection-proper b 13 n p (⊎-elim (λ k. inl (omega arith)) inr h)
-canonicalizeInto-proper b (passed r) h = writeInto-proper b (readingText r)
+bytes-given : (b : List ℕ) (t : Bool) (w : Bytes) → (t ≡ true → length w ≤ length b) → Given b 13 (bytesThat t w)
+unfolding bytesThat
+bytes-given b true w f = (tt, f refl)
+bytes-given b false w f = (inl (omega arith), tt)
 
 -- Reading: numbers 0 to 12 and 17; a refusal leaves every word of the lent table.
 pub read-proper : (text : Bytes) (b : List ℕ) → Proper b 12 (read text b)
 unfolding read
-read-proper text b = readInto-proper text b (readText text) (read-numbered text) (λ r e. reading-operated (reading-of-tokens text r e .1))
+read-proper text b =
+    checked-proper b 12 (nodesInto text b) (readText text) (read-numbered text) (omega arith)
+    (λ r e. nodes-given text b r (reading-operated (reading-of-tokens text r e .1)))
 
 -- Canonicalizing: numbers 0 to 13 and 17; a refusal leaves every byte of the lent buffer.
 pub canonicalize-proper : (text : Bytes) (b : List ℕ) → Proper b 13 (canonicalize text b)
-unfolding canonicalize
-canonicalize-proper text b = canonicalizeInto-proper b (readText text) (read-numbered text)
+unfolding canonicalize textInto
+canonicalize-proper text b =
+    checked-proper b 13 (textInto b) (readText text) (read-numbered text) (omega arith)
+    (λ r e.
+    let w = readingText r in
+    bytes-given b (leb (length w) (length b) && leb (length w) longestText) w (λ t. leb-true (length w) (length b) (and-left _ _ t)))

@@ -18,7 +18,7 @@ use Rattle.grammar.specs.SpanTree.{SpanTree, missing, operand, apply, yi
 use Rattle.grammar.specs.Tree.{Tree, nothing, leaf, bracket, block, node, flat, spanTree, InnerOk}
 use Rattle.grammar.specs.Blank.{Blank, blankRule}
 use Rattle.grammar.specs.Nodes.{count}
-use Rattle.grammar.specs.Canonical.{canonical, canonicalText, joinTokens}
+use Rattle.grammar.specs.Canonical.{canonical, canonicalText, joinPieces, joinTokens}
 use Rattle.grammar.specs.Abstract.{absent, abstract, Agree}
 use Rattle.grammar.specs.Fault.{Past}
 use Rattle.grammar.specs.Claim.{HasNoTree, FirstWithout, EmptyInside, TreeOf, ReadingOf, ofTree, ofBlank, canonicalBytes}
@@ -65,7 +65,7 @@ blank-nodes text t (ofTree h) e = absurd (omega (arith, counted t (h .isTree .ou
 blank-nodes text t (ofBlank b) e = b
 
 pub blank-canonical : (text : Bytes) (t : Tree) → ReadingOf text t → length (canonicalBytes t) ≡ 0 → Blank text
-unfolding canonical canonicalText flat joinTokens every
+unfolding canonical canonicalText flat joinPieces joinTokens every
 blank-canonical text t h e =
     let none : Blank [] = record { short = omega arith; blank = refl } in
     let same : [] ≡ canonicalBytes t = sym (go (canonicalBytes t) e) in

@@ -61,17 +61,19 @@ effect-table (changed a r l e) = effect-table e
 fault-refused : (T : Table) (i : ℕ) (ts : List Token) (n k : ℕ) → DeclarationFault current T ts n k → enter (length ts) T i ts ≡ refused n (i + k)
 fault-refused T i ts n k (malformed ds t rest {k = j} e f u) =
     let l = length (allTokens ds ++ t ∷ rest) in
-    let h = unfit-refused l T i ds (t ∷ rest) j (effect-allowed f) (effect-fits f) (omega arith) (omega arith) (unfit-first (t ∷ rest) j .1 u) in
+    let h = unfit-refused checkedAt l T i ds (t ∷ rest) j (effect-allowed f) (effect-fits f) (omega arith) (omega arith)
+    (unfit-first (t ∷ rest) j .1 u) in
     rw e (h ∙ ap (refused 8) (omega arith))
 fault-refused T i ts n k (namesReserved ds d rest e f a r) =
     let more = declarationTokens d ++ rest in
     let l = length (allTokens ds ++ more) in
-    let h = reserved-refused T i ds more d rest (declaration-of d rest a) l (effect-allowed f) (effect-fits f) (omega arith) r in
+    let h = reserved-refused checkedAt T i ds more d rest (declaration-of d rest a) l (effect-allowed f) (effect-fits f) (omega arith) r in
     rw e (h ∙ ap (refused 17) (omega arith))
 fault-refused T i ts n k (overfull ds d rest e f a r m) =
     let more = declarationTokens d ++ rest in
     let l = length (allTokens ds ++ more) in
-    let h = overfull-refused T i ds more d rest (declaration-of d rest a) l (effect-allowed f) (effect-fits f) (omega arith) r (rw (effect-table f) at m) in
+    let h = overfull-refused checkedAt T i ds more d rest (declaration-of d rest a) l (effect-allowed f) (effect-fits f) (omega arith) r
+    (rw (effect-table f) at m) in
     rw e (h ∙ ap (refused 9) (omega arith))
 fault-refused T i ts n k (unlawful ds {U} e f c) =
     let v = rw (effect-table f) at (violated (permitted U) refl) in
@@ -165,8 +167,8 @@ behind-faulty T i d rest n p a r l (k, e, f) =
 
 refused-faulty : (f : ℕ) (T : Table) (i : ℕ) (ts : List Token) (n p : ℕ) → length ts ≤ f → enter f T i ts ≡ refused n p → Faulty T i ts n p
 unfolding hasRoom
-refused-faulty zero T i [] n p l e = checked-faulty T i n p (sym (enter-end zero T i) ∙ e)
-refused-faulty (suc f) T i [] n p l e = checked-faulty T i n p (sym (enter-end (suc f) T i) ∙ e)
+refused-faulty zero T i [] n p l e = checked-faulty T i n p (sym (enter-end checkedAt zero T i) ∙ e)
+refused-faulty (suc f) T i [] n p l e = checked-faulty T i n p (sym (enter-end checkedAt (suc f) T i) ∙ e)
 refused-faulty zero T i (t ∷ ts) n p l e = absurd (omega arith)
 refused-faulty (suc f) T i (t ∷ ts) n p l e = read (declaration (t ∷ ts)) refl (refused-faulty f)
   where
@@ -179,19 +181,19 @@ refused-faulty (suc f) T i (t ∷ ts) n p l e = read (declaration (t ∷ ts)) re
     room d rest h a further free true r =
         behind-faulty T i d rest n p a free (leb-true (length (declare T d)) mostOperators r)
         (further (declare T d) (i + length (declarationTokens d)) rest n p (omega (arith, parsed-shorter (t ∷ ts) d rest h))
-        (sym (enter-step f T i (t ∷ ts) h free ∙ rw r refl) ∙ e))
+        (sym (enter-step checkedAt f T i (t ∷ ts) h free ∙ rw r refl) ∙ e))
     room d rest h a further free false r =
         overfull-faulty T i d rest n p a free (leb-false (length (declare T d)) mostOperators r)
-        (sym (enter-step f T i (t ∷ ts) h free ∙ rw r refl) ∙ e)
+        (sym (enter-step checkedAt f T i (t ∷ ts) h free ∙ rw r refl) ∙ e)
 
     named :
         (d : Declaration) (rest : List Token) → declaration (t ∷ ts) ≡ parsed d rest → isDeclaration d ≡ true → Further
         → (b : Bool) → isReserved (operatorOf d) ≡ b → Faulty T i (declarationTokens d ++ rest) n p
-    named d rest h a further true r = reserved-faulty T i d rest n p a r (sym (enter-reserved f T i (t ∷ ts) h r) ∙ e)
+    named d rest h a further true r = reserved-faulty T i d rest n p a r (sym (enter-reserved checkedAt f T i (t ∷ ts) h r) ∙ e)
     named d rest h a further false r = room d rest h a further r (hasRoom T d) refl
 
     read : (o : Parsed) → declaration (t ∷ ts) ≡ o → Further → Faulty T i (t ∷ ts) n p
-    read (unfit j) h further = unfit-faulty T i t ts j n p h (sym (enter-unfit (suc f) T i (t ∷ ts) j (omega arith) l h) ∙ e)
+    read (unfit j) h further = unfit-faulty T i t ts j n p h (sym (enter-unfit checkedAt (suc f) T i (t ∷ ts) j (omega arith) l h) ∙ e)
     read (parsed d rest) h further =
         let (w, a) = declaration-sound (t ∷ ts) d rest h in
         rw w (named d rest h a further (isReserved (operatorOf d)) refl)

@@ -7,7 +7,7 @@ use mathlib.Core.List.{List, [], _∷_, _++_, map, map-id}
 use mathlib.Core.Option.{Option, none, some}
 use Prim.Native.Nat.{ℕ, zero, suc, _+_, _≤_, _<_}
 use native.Mathlib.Omega.{arith}
-use lib.ListN.{length}
+use lib.ListN.{length, length-append}
 use Rattle.grammar.specs.Bytes.{Bytes, same, All}
 use Rattle.grammar.specs.Token.{
   isStructure,
@@ -26,7 +26,7 @@ use Rattle.grammar.specs.Token.{
   keywordEnd,
 }
 use Rattle.grammar.specs.Operator.{Fixity, Prefix, Infix, Postfix, Associativity, left, right, non, allowed, Table, permitted}
-use Rattle.grammar.specs.Outcome.{Outcome, refused, passed}
+use Rattle.grammar.specs.Outcome.{Outcome, refused, passed, andThen}
 use Rattle.grammar.specs.Declaration.{
   Declaration,
   declares,
@@ -62,11 +62,16 @@ use Rattle.grammar.specs.Declaration.{
   Free,
   hasRoom,
   checkedAt,
+  Check,
+  enterWith,
   enter,
+  unchecked,
+  enterPart,
   declarationsOf,
   declarations,
 }
 use Rattle.grammar.proofs.Logic.{and-left, and-right, and-intro, impossible, same-eq}
+use Rattle.grammar.proofs.ItemLists.{andThen-passed}
 
 -- The words of declarations are told apart.
 pub fixity-named : (f : Fixity) → (same (fixityWord f) plainWord ≡ false) × (fixityNamed (fixityWord f) ≡ some f)
@@ -277,72 +282,106 @@ checked-anywhere : (i j : ℕ) (T U : Table) → checkedAt i T ≡ passed U → 
 unfolding checkedAt
 checked-anywhere i j T U e = tested no-pass (permitted T) e λ p q. rw (p, checkedAt) q
 
--- Checks 8 to 10 and 17 at the end of the tokens, and one declaration further.
-pub enter-end : (k : ℕ) (T : Table) (i : ℕ) → enter k T i [] ≡ checkedAt i T
-unfolding enter
-enter-end zero T i = refl
-enter-end (suc k) T i = refl
-
-enter-unfed :
-    (T : Table) (i : ℕ) (d : Declaration) (rest : List Token) (U : Table) → enter zero T i (declarationTokens d ++ rest) ≡ passed U → ⊥
-unfolding enter declarationTokens
-enter-unfed T i (declares f a c m) rest U e = no-pass e
-enter-unfed T i (clears m) rest U e = no-pass e
-
 -- Room for a declaration depends on what it leaves only.
 room-alike : (T : Table) (d d′ : Declaration) → declare T d ≡ declare T d′ → hasRoom T d ≡ hasRoom T d′
 unfolding hasRoom
 room-alike T d d′ e = rw e
 
-abbrev judged : ℕ → Table → ℕ → Declaration → List Token → Outcome Table
-judged k T i d rest =
-    elim (isReserved (operatorOf d)) [
-      | true ↦ refused 17 (i + operatorPlace d)
-      | false ↦
-          elim (hasRoom T d) [
-            | true ↦ enter k (declare T d) (i + length (declarationTokens d)) rest
-            | false ↦ refused 9 (i + operatorPlace d)
-          ]
-    ]
+-- Whatever the check behind the declarations: what is answered at the end of the tokens, and one declaration further.
+module _ (check : Check) where
+  pub enter-end : (k : ℕ) (T : Table) (i : ℕ) → enterWith check k T i [] ≡ check i T
+  unfolding enterWith
+  enter-end zero T i = refl
+  enter-end (suc k) T i = refl
 
-declaration-step :
-    (k : ℕ) (T : Table) (i : ℕ) (ts : List Token) {d : Declaration} {rest : List Token} → declaration ts ≡ parsed d rest
-    → enter (suc k) T i ts ≡ judged k T i d rest
-unfolding enter declaration
-declaration-step k T i [] h = absurd (no-parse h)
-declaration-step k T i (t ∷ ts) h = rw (h, enter) refl
+  enter-unfed :
+      (T : Table) (i : ℕ) (d : Declaration) (rest : List Token) (U : Table) → enterWith check zero T i (declarationTokens d ++ rest) ≡ passed U → ⊥
+  unfolding enterWith declarationTokens
+  enter-unfed T i (declares f a c m) rest U e = no-pass e
+  enter-unfed T i (clears m) rest U e = no-pass e
 
--- It names a reserved operator, or not.
-module _ (k : ℕ) (T : Table) (i : ℕ) (ts : List Token) {d : Declaration} {rest : List Token} (h : declaration ts ≡ parsed d rest) where
-  pub enter-reserved : isReserved (operatorOf d) ≡ true → enter (suc k) T i ts ≡ refused 17 (i + operatorPlace d)
-  enter-reserved r = declaration-step k T i ts h ∙ rw (r, judged) refl
-
-  pub enter-step :
-      Free d
-      → enter (suc k) T i ts
-      ≡ elim (hasRoom T d) [
-        | true ↦ enter k (declare T d) (i + length (declarationTokens d)) rest
-        | false ↦ refused 9 (i + operatorPlace d)
+  abbrev judged : ℕ → Table → ℕ → Declaration → List Token → Outcome Table
+  judged k T i d rest =
+      elim (isReserved (operatorOf d)) [
+        | true ↦ refused 17 (i + operatorPlace d)
+        | false ↦
+            elim (hasRoom T d) [
+              | true ↦ enterWith check k (declare T d) (i + length (declarationTokens d)) rest
+              | false ↦ refused 9 (i + operatorPlace d)
+            ]
       ]
-  enter-step r = declaration-step k T i ts h ∙ rw (r, judged) refl
 
--- Checks 8 to 10 and 17 passed: the tokens are those of declarations, none of a reserved operator, and what is in force behind them
--- keeps the overloading rule.
-enterOf-sound :
-    (k : ℕ) (T : Table) (i : ℕ) (ts : List Token) (U : Table) → enter k T i ts ≡ passed U
+  declaration-step :
+      (k : ℕ) (T : Table) (i : ℕ) (ts : List Token) {d : Declaration} {rest : List Token} → declaration ts ≡ parsed d rest
+      → enterWith check (suc k) T i ts ≡ judged k T i d rest
+  unfolding enterWith declaration
+  declaration-step k T i [] h = absurd (no-parse h)
+  declaration-step k T i (t ∷ ts) h = rw (h, enterWith) refl
+
+  -- It names a reserved operator, or not.
+  module _ (k : ℕ) (T : Table) (i : ℕ) (ts : List Token) {d : Declaration} {rest : List Token} (h : declaration ts ≡ parsed d rest) where
+    pub enter-reserved : isReserved (operatorOf d) ≡ true → enterWith check (suc k) T i ts ≡ refused 17 (i + operatorPlace d)
+    enter-reserved r = declaration-step k T i ts h ∙ rw (r, judged) refl
+
+    pub enter-step :
+        Free d
+        → enterWith check (suc k) T i ts
+        ≡ elim (hasRoom T d) [
+          | true ↦ enterWith check k (declare T d) (i + length (declarationTokens d)) rest
+          | false ↦ refused 9 (i + operatorPlace d)
+        ]
+    enter-step r = declaration-step k T i ts h ∙ rw (r, judged) refl
+
+-- What is refused of a declaration is refused whatever follows.
+judged-then :
+    (reserved room : Bool) (n m p : ℕ) (o u : Outcome Table) (f : Table → Outcome Table) → o ≡ andThen u f
+    → elim reserved [ true ↦ refused n p | false ↦ elim room [ true ↦ o | false ↦ refused m p ] ]
+    ≡ andThen (elim reserved [ true ↦ refused n p | false ↦ elim room [ true ↦ u | false ↦ refused m p ] ]) f
+unfolding andThen
+judged-then true room n m p o u f e = refl
+judged-then false true n m p o u f e = e
+judged-then false false n m p o u f e = refl
+
+-- The check is asked of what the declarations alone leave in force.
+pub enter-checks :
+    (check : Check) (k : ℕ) (T : Table) (i : ℕ) (ts : List Token)
+    → enterWith check k T i ts ≡ andThen (enterPart k T i ts) (check (i + length ts))
+unfolding enterWith andThen
+enter-checks check zero T i [] = ap (λ j. check j T) (omega arith)
+enter-checks check zero T i (t ∷ ts) = refl
+enter-checks check (suc k) T i [] = ap (λ j. check j T) (omega arith)
+enter-checks check (suc k) T i (t ∷ ts) = go (declaration (t ∷ ts)) refl (enter-checks check k)
+  where
+    go :
+        (p : Parsed) → declaration (t ∷ ts) ≡ p
+        → ((T : Table) (i : ℕ) (ts : List Token) → enterWith check k T i ts ≡ andThen (enterPart k T i ts) (check (i + length ts)))
+        → enterWith check (suc k) T i (t ∷ ts) ≡ andThen (enterPart (suc k) T i (t ∷ ts)) (check (i + length (t ∷ ts)))
+    go (unfit n) e further = rw (e, enterWith) refl
+    go (parsed d rest) e further =
+        let l : i + length (declarationTokens d) + length rest ≡ i + length (t ∷ ts) =
+        omega (arith, ap length (declaration-sound (t ∷ ts) d rest e .0), length-append (declarationTokens d) rest) in
+        let g = further (declare T d) (i + length (declarationTokens d)) rest in
+        declaration-step check k T i (t ∷ ts) e
+        ∙ judged-then (isReserved (operatorOf d)) (hasRoom T d) 17 9 (i + operatorPlace d) _ _ (check (i + length (t ∷ ts))) (rw l at g)
+        ∙ ap (λ o. andThen o (check (i + length (t ∷ ts)))) (sym (declaration-step unchecked k T i (t ∷ ts) e))
+
+-- Checks 8, 17 and 9 passed: the tokens are those of declarations, none of a reserved operator, and what is in force behind them is what
+-- they declare.
+partOf-sound :
+    (k : ℕ) (T : Table) (i : ℕ) (ts : List Token) (U : Table) → enterPart k T i ts ≡ passed U
     → (allTokens (declarationsOf k ts) ≡ ts) × (areDeclarations (declarationsOf k ts) ≡ true)
-    × (U ≡ declareAll T (declarationsOf k ts)) × (permitted U ≡ true) × All Free (declarationsOf k ts)
-unfolding enter declarationsOf allTokens areDeclarations declareAll
-enterOf-sound zero T i [] U e = let (p, q) = checked-sound i T U e in (refl, refl, sym p, q, tt)
-enterOf-sound zero T i (t ∷ ts) U e = absurd (no-pass e)
-enterOf-sound (suc k) T i [] U e = let (p, q) = checked-sound i T U e in (refl, refl, sym p, q, tt)
-enterOf-sound (suc k) T i (t ∷ ts) U e =
+    × (U ≡ declareAll T (declarationsOf k ts)) × All Free (declarationsOf k ts)
+unfolding enterWith declarationsOf allTokens areDeclarations declareAll
+partOf-sound zero T i [] U e = (refl, refl, cc, tt)
+partOf-sound zero T i (t ∷ ts) U e = absurd (no-pass e)
+partOf-sound (suc k) T i [] U e = (refl, refl, cc, tt)
+partOf-sound (suc k) T i (t ∷ ts) U e =
     read (declaration (t ∷ ts)) e λ d rest h f.
     untested no-pass (isReserved (operatorOf d)) f λ r j.
     tested no-pass (hasRoom T d) j λ l g.
     let (p, q) = declaration-sound (t ∷ ts) d rest h in
-    let (u, v, w, x, y) = enterOf-sound k (declare T d) (i + length (declarationTokens d)) rest U g in
-    rw (declarations-step k (t ∷ ts) h) (ap (_++_ (declarationTokens d)) u ∙ sym p, rw (q, areDeclarations) v, w, x, (r, y))
+    let (u, v, w, x) = partOf-sound k (declare T d) (i + length (declarationTokens d)) rest U g in
+    rw (declarations-step k (t ∷ ts) h) (ap (_++_ (declarationTokens d)) u ∙ sym p, rw (q, areDeclarations) v, w, (r, x))
   where
     read :
         {C : Type 0} (p : Parsed) {further : Declaration → List Token → Outcome Table}
@@ -351,12 +390,24 @@ enterOf-sound (suc k) T i (t ∷ ts) U e =
     read (unfit n) f then = absurd (no-pass f)
     read (parsed d rest) f then = then d rest refl f
 
+pub part-sound :
+    (T : Table) (i : ℕ) (ts : List Token) (U : Table) → enterPart (length ts) T i ts ≡ passed U
+    → (allTokens (declarations ts) ≡ ts) × (areDeclarations (declarations ts) ≡ true) × (U ≡ declareAll T (declarations ts))
+    × All Free (declarations ts)
+unfolding declarations
+part-sound T i ts U e = partOf-sound (length ts) T i ts U e
+
+-- Check 10 passed too: what is in force keeps the overloading rule.
 pub enter-sound :
     (T : Table) (i : ℕ) (ts : List Token) (U : Table) → enter (length ts) T i ts ≡ passed U
     → (allTokens (declarations ts) ≡ ts) × (areDeclarations (declarations ts) ≡ true) × (U ≡ declareAll T (declarations ts))
     × (permitted U ≡ true) × All Free (declarations ts)
-unfolding declarations
-enter-sound T i ts U e = enterOf-sound (length ts) T i ts U e
+enter-sound T i ts U e =
+    let f = sym (enter-checks checkedAt (length ts) T i ts) ∙ e in
+    let (X, a, b) = andThen-passed (enterPart (length ts) T i ts) (checkedAt (i + length ts)) U f in
+    let (p, q) = checked-sound (i + length ts) X U b in
+    let (u, v, w, x) = part-sound T i ts X a in
+    (u, v, sym p ∙ w, q, x)
 
 -- Declarations written otherwise, by an `f` after which they are allowed, name their operators and change what is in force as before.
 module _
@@ -380,8 +431,8 @@ module _
         (k l : ℕ) (T : Table) (i j : ℕ) (ds : List Declaration) (U : Table) → areDeclarations ds ≡ true
         → length (allTokens (map f ds)) ≤ l → enter k T i (allTokens ds) ≡ passed U → enter l T j (allTokens (map f ds)) ≡ passed U
     unfolding allTokens
-    enter-map k l T i j [] U a n e = enter-end l T j ∙ checked-anywhere i j T U (sym (enter-end k T i) ∙ e)
-    enter-map zero l T i j (d ∷ ds) U a n e = absurd (enter-unfed T i d (allTokens ds) U e)
+    enter-map k l T i j [] U a n e = enter-end checkedAt l T j ∙ checked-anywhere i j T U (sym (enter-end checkedAt k T i) ∙ e)
+    enter-map zero l T i j (d ∷ ds) U a n e = absurd (enter-unfed checkedAt T i d (allTokens ds) U e)
     enter-map (suc k) zero T i j (d ∷ ds) U a n e = absurd (omega (arith, tokens-shorter (f d) (allTokens (map f ds))))
     enter-map (suc k) (suc l) T i j (d ∷ ds) U a n e =
         let (p, q) = declarations-first d ds a in
@@ -389,12 +440,12 @@ module _
         let before = declaration-of d (allTokens ds) p in
         let after = declaration-of (f d) (allTokens (map f ds)) (allows d ∙ p) in
         untested no-pass (isReserved (operatorOf d))
-        (sym (declaration-step k T i (declarationTokens d ++ allTokens ds) before) ∙ e) λ free t.
+        (sym (declaration-step checkedAt k T i (declarationTokens d ++ allTokens ds) before) ∙ e) λ free t.
         tested no-pass (hasRoom T d) t λ s u.
         let i′ = i + length (declarationTokens d) in
         let j′ = j + length (declarationTokens (f d)) in
         let room = room-alike T (f d) d (changes T d) ∙ s in
-        enter-step l T j (declarationTokens (f d) ++ allTokens (map f ds)) after (ap isReserved (names d) ∙ free)
+        enter-step checkedAt l T j (declarationTokens (f d) ++ allTokens (map f ds)) after (ap isReserved (names d) ∙ free)
         ∙ rw (room, changes T d) (enter-map k l (declare T d) i′ j′ ds U q r u)
 
 -- Declarations that passed checks 8 to 10 and 17 pass them wherever they stand.

@@ -37,6 +37,7 @@ use Rattle.grammar.specs.Declaration.{
   isReserved,
   hasRoom,
   checkedAt,
+  enterWith,
   enter,
 }
 use Rattle.grammar.specs.Span.{Item, single, pair, scope, items}
@@ -173,15 +174,15 @@ checkedAt-numbered i T = choice (Numbered OfBlocks) (permitted T) _ _ tt (inl (o
 enter-step : (k : ℕ) (T : Table) (i : ℕ) (t : Token) (ts : List Token)
     → ((T : Table) (i : ℕ) (ts : List Token) → Numbered OfBlocks (enter k T i ts)) → (d : Parsed) → declaration (t ∷ ts) ≡ d
     → Numbered OfBlocks (enter (suc k) T i (t ∷ ts))
-unfolding enter
-enter-step k T i t ts rest (unfit n) e = rw (e, enter) (inl (omega arith))
+unfolding enterWith
+enter-step k T i t ts rest (unfit n) e = rw (e, enterWith) (inl (omega arith))
 enter-step k T i t ts rest (parsed d us) e =
-    rw (e, enter)
+    rw (e, enterWith)
     (choice (Numbered OfBlocks) (isReserved (operatorOf d)) _ _ (inr refl)
     (choice (Numbered OfBlocks) (hasRoom T d) _ _ (rest (declare T d) (i + length (declarationTokens d)) us) (inl (omega arith))))
 
 enter-numbered : (k : ℕ) (T : Table) (i : ℕ) (ts : List Token) → Numbered OfBlocks (enter k T i ts)
-unfolding enter
+unfolding enterWith
 enter-numbered zero T i [] = checkedAt-numbered i T
 enter-numbered zero T i (t ∷ ts) = inl (omega arith)
 enter-numbered (suc k) T i [] = checkedAt-numbered i T

@@ -40,6 +40,7 @@ use Rattle.grammar.specs.Declaration.{
   isReserved,
   hasRoom,
   checkedAt,
+  enterWith,
   enter,
 }
 use Rattle.grammar.specs.Span.{Item, single, pair, scope, itemTokens, items, allItemTokens}
@@ -134,20 +135,20 @@ module _ (m : ℕ) where
   enter-step : (k : ℕ) (T : Table) (i : ℕ) (t : Token) (ts : List Token)
       → ((T : Table) (i : ℕ) (ts : List Token) → i + length ts < m → Below m (enter k T i ts)) → i + length (t ∷ ts) < m
       → (d : Parsed) → declaration (t ∷ ts) ≡ d → Below m (enter (suc k) T i (t ∷ ts))
-  unfolding enter
+  unfolding enterWith
   enter-step k T i t ts rest h (unfit n) e =
       let b : n ≤ length (t ∷ ts) = rw e at (declaration-within (length (t ∷ ts)) (t ∷ ts) (omega arith)) in
-      rw (e, enter) (omega arith)
+      rw (e, enterWith) (omega arith)
   enter-step k T i t ts rest h (parsed d us) e =
       let j = length (declarationTokens d) in
       let n : length (t ∷ ts) ≡ j + length us = ap length (declaration-sound (t ∷ ts) d us e .0) ∙ length-append (declarationTokens d) us in
       let o : i + operatorPlace d < m = omega (arith, operator-inside d) in
-      rw (e, enter)
+      rw (e, enterWith)
       (choice (Below m) (isReserved (operatorOf d)) _ _ o (choice (Below m) (hasRoom T d) _ _ (rest (declare T d) (i + j) us (omega arith)) o))
 
   -- Checks 8 to 10 and 17 of declarations refuse at one of their tokens or behind the last one, at the `in`.
   enter-below : (k : ℕ) (T : Table) (i : ℕ) (ts : List Token) → i + length ts < m → Below m (enter k T i ts)
-  unfolding enter
+  unfolding enterWith
   enter-below zero T i [] h = checkedAt-below i T (omega arith)
   enter-below zero T i (t ∷ ts) h = omega arith
   enter-below (suc k) T i [] h = checkedAt-below i T (omega arith)

@@ -2,7 +2,7 @@
 -- directions go by the token at the front. What tokens joined by spaces spell is those tokens, so a scan gives them back.
 use mathlib.Core.Path.{_≡_, refl, sym, ap, subst, _∙_}
 use mathlib.Core.Bool.{Bool, true, false}
-use mathlib.Core.List.{List, [], _∷_, _++_, append-nil}
+use mathlib.Core.List.{List, [], _∷_, _++_, append-nil, map}
 use Prim.Native.Nat.{ℕ, zero, suc, _+_, _≤_, max}
 use native.Mathlib.Omega.{arith}
 use lib.ListN.{length, take, drop, length-append, take-append-drop}
@@ -37,7 +37,7 @@ use Rattle.grammar.specs.Token.{
 use Rattle.grammar.specs.Spelling.{continues, Stops, Splits, noMore, oneMore, Spells}
 use Rattle.grammar.specs.Outcome.{Outcome, refused, passed}
 use Rattle.grammar.specs.Scan.{Placed, run, Front, nothing, wrong, taken, frontOf, front, before, scan}
-use Rattle.grammar.specs.Canonical.{spaced, joinTokens}
+use Rattle.grammar.specs.Canonical.{spacedPieces, joinPieces, joinTokens}
 use Rattle.grammar.specs.Answer.{tokensOf}
 use Rattle.grammar.proofs.Logic.{and-left, and-right, and-intro, impossible}
 use Rattle.grammar.proofs.Runs.{run-append, ran, front-spelled}
@@ -96,8 +96,12 @@ space-stops (structure keywordLet) s = refl
 space-stops (structure keywordIn) s = refl
 space-stops (structure keywordEnd) s = refl
 
+-- The spellings of tokens with one space before each.
+abbrev spaced : List Token → Bytes
+spaced ts = spacedPieces (map spelling ts)
+
 spaced-stops : (t : Token) (ts : List Token) → Stops (continues t) (spaced ts)
-unfolding spaced
+unfolding spacedPieces
 spaced-stops t [] = tt
 spaced-stops t (u ∷ ts) = space-stops t (spelling u ++ spaced ts)
 
@@ -210,18 +214,18 @@ unfolding areTokens
 spells-behind b t ts e h r = spells-next b t (spaced ts) refl e (and-left (isToken t) (areTokens ts) h) (spaced-stops t ts) r
 
 spells-spaced : (ts : List Token) → areTokens ts ≡ true → Spells (spaced ts) ts
-unfolding spaced areTokens every isBlankByte class
+unfolding spacedPieces areTokens every isBlankByte class
 spells-spaced [] e = spells-none refl
 spells-spaced (t ∷ ts) e = spells-behind (32 ∷ []) t ts refl e (spells-spaced ts (and-right (isToken t) (areTokens ts) e))
 
 spells-joined : (ts : List Token) → areTokens ts ≡ true → Spells (joinTokens ts) ts
-unfolding joinTokens areTokens every
+unfolding joinPieces joinTokens areTokens every
 spells-joined [] e = spells-none refl
 spells-joined (t ∷ ts) e = spells-behind [] t ts refl e (spells-spaced ts (and-right (isToken t) (areTokens ts) e))
 
 -- A token by itself spells itself.
 pub token-spelled : (t : Token) → isToken t ≡ true → Spells (spelling t) (t ∷ [])
-unfolding areTokens joinTokens spaced
+unfolding areTokens joinPieces joinTokens spacedPieces
 token-spelled t e = subst (λ s. Spells s (t ∷ [])) (append-nil (spelling t)) (spells-joined (t ∷ []) (and-intro e refl))
 
 -- Scanning what was written gives back the tokens.

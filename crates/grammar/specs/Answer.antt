@@ -1,6 +1,6 @@
--- Document 01, "Thirteen ways to say no": what both services answer, and what the lent buffer holds afterwards.
+-- Document 01, "Thirteen ways to say no": what the services answer, and what the lent buffer holds afterwards.
 use mathlib.Core.Path.{_≡_}
-use mathlib.Core.Bool.{true, false, _&&_}
+use mathlib.Core.Bool.{Bool, true, false, _&&_}
 use mathlib.Core.List.{List, [], _∷_, _++_}
 use mathlib.Core.Option.{Option, none, some}
 use Prim.Native.Nat.{ℕ, suc, _*_, _≤_}
@@ -90,20 +90,6 @@ rejection n p = record { number = n; offset = p; count = 0 }
 unfoldable pub success : ℕ → Answer
 success c = record { number = 0; offset = 0; count = c }
 
--- Where a text without a tree is lost, from its tokens. (A text that has none, because they are refused, is lost at the refusal.)
-unfoldable pub lostOffset : Bytes → Outcome (List Placed) → ℕ
-lostOffset text (refused n p) = p
-lostOffset text (passed ps) = offsetOf text ps (lostToken (spansOf ps))
-
--- Locating: 0 for a text that is read; a refusal, in the place of 11's own place that at which the text is lost.
-unfoldable pub locatedAt : Bytes → Outcome Reading → Answer
-locatedAt text (refused n p) =
-    elim (eqb n 11) [ true ↦ rejection n (lostOffset text (scan mostTokens 0 text)) | false ↦ rejection n p ]
-locatedAt text (passed r) = success 0
-
-unfoldable pub locate : Bytes → Answer
-locate text = locatedAt text (readText text)
-
 -- What a service leaves: its answer and the contents of the lent buffer.
 pub record Result : Type 0 where
   pub answer : Answer
@@ -113,46 +99,68 @@ pub record Result : Type 0 where
 unfoldable pub over : List ℕ → List ℕ → List ℕ
 over w b = w ++ drop (length w) b
 
+-- What a service that does not refuse counts, and what it writes over the front of the lent buffer.
+pub record Written : Type 0 where
+  pub counted : ℕ
+  pub contents : List ℕ
+
+-- What every service leaves. "Refused: count 0, buffers unchanged."
+unfoldable pub answered : List ℕ → Outcome Written → Result
+answered buffer (refused n p) = record { answer = rejection n p; buffer = buffer }
+answered buffer (passed w) = record { answer = success (w .counted); buffer = over (w .contents) buffer }
+
 unfoldable pub readingWords : Bytes → Reading → List ℕ
 readingWords text r = words (offsetOf text (r .tokens)) startTable (r .tree) 0 0
 
 -- "12: reading: node table too short: 0"
-unfoldable pub readInto : Bytes → List ℕ → Outcome Reading → Result
-readInto text buffer (refused n p) = record { answer = rejection n p; buffer = buffer }
-readInto text buffer (passed r) =
+unfoldable pub nodesInto : Bytes → List ℕ → Reading → Outcome Written
+nodesInto text buffer r =
     elim (leb (wordsPerNode * count (r .tree)) (length buffer)) [
-      | true ↦ record { answer = success (count (r .tree)); buffer = over (readingWords text r) buffer }
-      | false ↦ record { answer = rejection 12 0; buffer = buffer }
+      | true ↦ passed (record { counted = count (r .tree); contents = readingWords text r })
+      | false ↦ refused 12 0
     ]
 
 -- Reading: the text, the lent node table, and what is left in it.
 unfoldable pub read : Bytes → List ℕ → Result
-read text buffer = readInto text buffer (readText text)
+read text buffer = answered buffer (andThen (readText text) (nodesInto text buffer))
+
+-- Bytes that fit; 13 for those that do not.
+unfoldable pub bytesThat : Bool → Bytes → Outcome Written
+bytesThat fit w = elim fit [ true ↦ passed (record { counted = length w; contents = w }) | false ↦ refused 13 0 ]
 
 unfoldable pub readingText : Reading → Bytes
 readingText r = canonicalText (canonical startTable (r .tree))
 
 -- "13: tidying: tidy text over the buffer or 16,384: 0"
-unfoldable pub writeInto : List ℕ → Bytes → Result
-writeInto buffer text =
-    elim (leb (length text) (length buffer) && leb (length text) longestText) [
-      | true ↦ record { answer = success (length text); buffer = over text buffer }
-      | false ↦ record { answer = rejection 13 0; buffer = buffer }
-    ]
+unfoldable pub textInto : List ℕ → Reading → Outcome Written
+textInto buffer r =
+    let text = readingText r in bytesThat (leb (length text) (length buffer) && leb (length text) longestText) text
+
+-- Tidying (here: canonicalizing): the text, the lent buffer, and what is left in it.
+unfoldable pub canonicalize : Bytes → List ℕ → Result
+canonicalize text buffer = answered buffer (andThen (readText text) (textInto buffer))
 
 -- 02, §5: the characters of a name, from its bytes `w` as written, for those who need more than a part of the text. 13 where the buffer is too
 -- short.
 unfoldable pub writeName : Bytes → List ℕ → Result
-writeName w b =
-    elim (leb (length (undoubled w)) (length b)) [
-      | true ↦ record { answer = success (length (undoubled w)); buffer = over (undoubled w) b }
-      | false ↦ record { answer = rejection 13 0; buffer = b }
-    ]
+writeName w buffer = answered buffer (bytesThat (leb (length (undoubled w)) (length buffer)) (undoubled w))
 
-unfoldable pub canonicalizeInto : List ℕ → Outcome Reading → Result
-canonicalizeInto buffer (refused n p) = record { answer = rejection n p; buffer = buffer }
-canonicalizeInto buffer (passed r) = writeInto buffer (readingText r)
+-- Where a text without a tree is lost, from its tokens. (A text that has none, because they are refused, is lost at the refusal.)
+unfoldable pub lostOffset : Bytes → Outcome (List Placed) → ℕ
+lostOffset text (refused n p) = p
+lostOffset text (passed ps) = offsetOf text ps (lostToken (spansOf ps))
 
--- Tidying (here: canonicalizing): the text, the lent buffer, and what is left in it.
-unfoldable pub canonicalize : Bytes → List ℕ → Result
-canonicalize text buffer = canonicalizeInto buffer (readText text)
+-- Checks 1 to 11 and 17, in the place of 11's own place that at which the text is lost.
+unfoldable pub lostAt : Bytes → Outcome Reading → Outcome Reading
+lostAt text (refused n p) = elim (eqb n 11) [ true ↦ refused n (lostOffset text (scan mostTokens 0 text)) | false ↦ refused n p ]
+lostAt text (passed r) = passed r
+
+abbrev pub locatedText : Bytes → Outcome Reading
+locatedText text = lostAt text (readText text)
+
+-- Locating: nothing is lent, counted or written.
+unfoldable pub nothingWritten : Reading → Outcome Written
+nothingWritten r = passed (record { counted = 0; contents = [] })
+
+unfoldable pub locate : Bytes → Result
+locate text = answered [] (andThen (locatedText text) nothingWritten)

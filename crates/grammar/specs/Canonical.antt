@@ -54,14 +54,18 @@ canonical T (node l m r) =
     m
     (fitted T onRight (roleOver T (spanTree l) m (spanTree r)) (canonical T r))
 
--- "Write the tokens with one space between."
-unfoldable pub spaced : List Token → Bytes
-spaced [] = []
-spaced (t ∷ ts) = 32 ∷ spelling t ++ spaced ts
+-- Parts with one space before each, and with one between.
+unfoldable pub spacedPieces : List Bytes → Bytes
+spacedPieces [] = []
+spacedPieces (p ∷ ps) = 32 ∷ p ++ spacedPieces ps
 
+unfoldable pub joinPieces : List Bytes → Bytes
+joinPieces [] = []
+joinPieces (p ∷ ps) = p ++ spacedPieces ps
+
+-- "Write the tokens with one space between."
 unfoldable pub joinTokens : List Token → Bytes
-joinTokens [] = []
-joinTokens (t ∷ ts) = spelling t ++ spaced ts
+joinTokens ts = joinPieces (map spelling ts)
 
 unfoldable pub canonicalText : Tree → Bytes
 canonicalText t = joinTokens (flat t)

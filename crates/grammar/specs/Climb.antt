@@ -94,7 +94,7 @@ unfoldable pub takes : Table → Stack → Bool
 takes T empty = true
 takes T (waiting l t w) = isSome (taking T l t)
 
--- An operator may come behind one that waits in the prefix role `c`, if that takes an operand and admits it.
+-- A prefix operator in the role `c` may come behind one that waits, if the waiting one takes an operand and admits it.
 unfoldable pub admitsPrefix : Option Role → Role → Bool
 admitsPrefix none c = false
 admitsPrefix (some q) c = admits onRight q (some c)

@@ -224,14 +224,18 @@ hasRoom T d = leb (length (declare T d)) mostOperators
 unfoldable pub checkedAt : ℕ → Table → Outcome Table
 checkedAt i T = elim (permitted T) [ true ↦ passed T | false ↦ refused 10 i ]
 
--- The operators in force behind the declarations `ts`, the first of which is token number `i`.
+-- A check of the operators in force at a token, by its number.
+abbrev pub Check : Type 0
+Check = ℕ → Table → Outcome Table
+
+-- The operators in force behind the declarations `ts`, the first of which is token number `i`, as a check at the token behind them answers.
 -- "each declaration complete through its `;` before it takes effect (8, then 9), then 10", and "17 .. for each complete declaration after 8
 -- and before 9"; the first number is fuel: no fewer than the tokens.
-unfoldable pub enter : ℕ → Table → ℕ → List Token → Outcome Table
-enter zero T i [] = checkedAt i T
-enter zero T i (t ∷ ts) = refused 8 i
-enter (suc k) T i [] = checkedAt i T
-enter (suc k) T i (t ∷ ts) =
+unfoldable pub enterWith : Check → ℕ → Table → ℕ → List Token → Outcome Table
+enterWith check zero T i [] = check i T
+enterWith check zero T i (t ∷ ts) = refused 8 i
+enterWith check (suc k) T i [] = check i T
+enterWith check (suc k) T i (t ∷ ts) =
     elim (declaration (t ∷ ts)) [
       | unfit n ↦ refused 8 (i + n)
       | parsed d rest ↦
@@ -239,11 +243,22 @@ enter (suc k) T i (t ∷ ts) =
             | true ↦ refused 17 (i + operatorPlace d)
             | false ↦
                 elim (hasRoom T d) [
-                  | true ↦ enter k (declare T d) (i + length (declarationTokens d)) rest
+                  | true ↦ enterWith check k (declare T d) (i + length (declarationTokens d)) rest
                   | false ↦ refused 9 (i + operatorPlace d)
                 ]
           ]
     ]
+
+-- Those of a block, with check 10 at its `in`.
+abbrev pub enter : ℕ → Table → ℕ → List Token → Outcome Table
+enter = enterWith checkedAt
+
+-- Those of a declaration part alone, with no check at its end: checks 8, 17 and 9.
+abbrev pub unchecked : Check
+unchecked i T = passed T
+
+abbrev pub enterPart : ℕ → Table → ℕ → List Token → Outcome Table
+enterPart = enterWith unchecked
 
 -- The declarations that the tokens of a declaration part spell, as far as they do.
 unfoldable pub declarationsOf : ℕ → List Token → List Declaration

@@ -9,7 +9,7 @@ use Rattle.grammar.specs.Nodes.{prefixKind, infixKind, postfixKind, bracketKind
 use Rattle.rows.specs.Fields.{kind, closer, left, right}
 use Rattle.rows.specs.InUse.{roleBeside}
 use Rattle.nodes.specs.Node.{precedenceOf, tokenWords, atomWords, blockWords, prefixOrInfixWords}
-use Rattle.nodes.specs.Building.{Rows}
+use Rattle.rows.specs.Standing.{Rows}
 use Rattle.nodes.specs.First.{openerOf, spanPart, operandPart, firstPart}
 use Rattle.nodes.specs.declared.build.Part.{Part}
 use Rattle.nodes.specs.declared.build.Part.the-variants.{Nothing, Of}

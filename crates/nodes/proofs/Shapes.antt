@@ -32,7 +32,7 @@ use Rattle.rows.proofs.Codes.{role-code, code-role}
 use Rattle.rows.proofs.InUse.{beside-none, beside-code, mark-present}
 use Rattle.nodes.specs.Node.{precedenceOf, atomKind}
 use Rattle.nodes.specs.First.{openerOf, operandPart, firstPart}
-use Rattle.nodes.specs.Building.{Rows, Stands}
+use Rattle.rows.specs.Standing.{Rows, Stands}
 use Rattle.nodes.specs.declared.build.Part.{Part}
 use Rattle.nodes.specs.declared.build.Part.the-variants.{Nothing, Of}
 use Rattle.nodes.proofs.Parts.{

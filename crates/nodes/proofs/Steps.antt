@@ -16,7 +16,8 @@ use Rattle.rows.specs.Codes.{IsRole}
 use Rattle.rows.specs.Standing.{mark}
 use Rattle.nodes.specs.Node.{atomWords, HasNode, Appended}
 use Rattle.nodes.specs.First.{openerOf, firstPart, HasFirst}
-use Rattle.nodes.specs.Building.{Rows, Stands, Buildable, Built}
+use Rattle.nodes.specs.Building.{Buildable, Built}
+use Rattle.rows.specs.Standing.{Rows, Stands}
 use Rattle.nodes.specs.declared.build.Part.{Part}
 use Rattle.nodes.specs.declared.build.Part.the-variants.{Nothing, Of}
 use Rattle.nodes.proofs.Over.{over-none, over-length, over-node, lent-length, over-lent}

@@ -1,31 +1,14 @@
 -- What the builder asks and what it leaves: the words of a tree over the front of the node table.
 use mathlib.Core.Path.{_≡_}
 use mathlib.Core.List.{List}
-use Prim.Native.Nat.{ℕ, suc, _+_, _*_, _≤_}
+use Prim.Native.Nat.{ℕ, _+_, _*_, _≤_}
 use lib.ListN.{length}
 use Rattle.grammar.specs.Operator.{Table}
-use Rattle.grammar.specs.Tree.{Tree, flat}
+use Rattle.grammar.specs.Tree.{Tree}
 use Rattle.grammar.specs.Nodes.{count, words, wordsPerNode}
 use Rattle.grammar.specs.Answer.{over}
 use Rattle.rows.specs.Fields.{Holds}
-use Rattle.rows.specs.Standing.{mark, Rooted, Tokened, Roled}
-
--- The three rows of a text.
-pub record Rows : Type 0 where
-  pub tokens : List ℕ
-  pub roles : List ℕ
-  pub roots : List ℕ
-
-abbrev pub rows : List ℕ → List ℕ → List ℕ → Rows
-rows K R O = record { tokens = K; roles = R; roots = O }
-
--- A tree that stands in the rows from token `from` to token `to`, under the operators `T`, with its root at token `at`.
-pub record Stands (places : ℕ → ℕ) (T : Table) (M : Rows) (from at to : ℕ) (t : Tree) : Type 0 where
-  pub tokened : Tokened places (M .tokens) from t
-  pub roled : Roled (M .roles) T from t
-  pub rooted : Rooted (M .roots) from t
-  pub root : suc at ≡ mark from t
-  pub end : to ≡ from + length (flat t)
+use Rattle.rows.specs.Standing.{Rows, Stands}
 
 -- What is asked: such a tree, room for its nodes, node numbers and offsets that are words, and a `let` before its `in`.
 pub record Buildable (M : Rows) (from at to : ℕ) (N : List ℕ) (base : ℕ) : Type 0 where

@@ -1,9 +1,9 @@
 -- What writing one node asks and leaves, and the words of an atom's node.
 use mathlib.Core.Path.{_≡_}
-use mathlib.Core.Bool.{Bool, true, false, _&&_}
+use mathlib.Core.Bool.{true, false}
 use mathlib.Core.List.{List}
 use Prim.Native.Nat.{ℕ, _+_, _-_, _*_, _≤_, _<_}
-use lib.Dec.{leb, eqb}
+use lib.Dec.{eqb}
 use lib.ListN.{length}
 use lib.Seq.{sets}
 use Rattle.grammar.specs.SpanTree.{rootPrecedence}
@@ -37,10 +37,6 @@ prefixOrInfixWords base l n K i precedence =
       | true ↦ tokenWords prefixKind (base + n - 1) 0 K i precedence
       | false ↦ tokenWords infixKind (base + l - 1) (base + n - 1) K i precedence
     ]
-
--- Token number `i` is an atom without operands.
-unfoldable pub standsAlone : List ℕ → List ℕ → ℕ → Bool
-standsAlone K O i = leb (kind K i) 3 && (eqb (left O i) 0 && eqb (right O i) 0)
 
 -- Node number `n` stands in the table.
 abbrev pub HasNode : List ℕ → ℕ → Type 0

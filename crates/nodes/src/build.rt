@@ -1,6 +1,7 @@
 // The builder calls itself on the tokens left and right of the root; each operand's nodes go into a lent part of the node table behind those
 // of its left sibling. It calls itself at two places only, and keeps no role across a call: each costs stack in every frame.
 use crate::node;
+use rows::below;
 use rows::in_use;
 use rows::kinds;
 use rows::roots as roots_row;
@@ -8,23 +9,9 @@ use rows::tokens as tokens_row;
 ghost use mathlib.Core.Path.{_≡_};
 ghost use Prim.Native.Nat.{_-_, _≤_};
 ghost use Rattle.rows.specs.Fields.{Within, left};
-ghost use Rattle.nodes.specs.Node.{standsAlone};
 ghost use Rattle.nodes.specs.First.{openerOf, HasFirst, firstPart};
-ghost use Rattle.nodes.specs.Building.{rows, Buildable, Built};
-
-// Whether the token at `at` stands over nothing: an atom that is no operator.
-fn is_leaf(tokens: &[u16], roots: &[u16], at: usize) -> bool
-    requires { ⌜ Within 4 (now tokens) at × Within 2 (now roots) at ⌝ }
-    ensures { λ r. ⌜ r ≡ standsAlone (now (tokens .entry)) (now (roots .entry)) at ⌝ }
-{
-    if kinds::QUOTED < tokens_row::kind(tokens, at) {
-        return false;
-    }
-    if roots_row::left(roots, at) != 0 {
-        return false;
-    }
-    roots_row::right(roots, at) == 0
-}
+ghost use Rattle.nodes.specs.Building.{Buildable, Built};
+ghost use Rattle.rows.specs.Standing.{rows};
 
 // The token that opens the span of a bracket pair or a block: the `(`, or the block's `in`.
 fn opener(tokens: &[u16], at: usize) -> usize
@@ -118,7 +105,7 @@ pub fn build(
         return node::unary(tokens, at, node::POSTFIX, role, base, l, nodes);
     }
     let after = l * node::WORDS;
-    if is_leaf(tokens, roots, right - 1) {
+    if below::stands_alone(tokens, roots, right - 1) {
         let r = node::leaf(tokens, right - 1, &mut nodes[after..]);
         return node::prefix_or_infix(tokens, roles, at, base, l, r, nodes);
     }

@@ -8,8 +8,8 @@ use Prim.Native.Nat.{ℕ, _+_, _-_, _*_, _≤_, _<_}
 use native.Mathlib.Numerals.{add-one}
 use native.Mathlib.Omega.{arith}
 use lib.Dec.{eqb}
-use lib.ListN.{length, take, drop, getD, set, length-set}
-use lib.Seq.{getD-set-same, getD-set-other}
+use lib.ListN.{length, take, drop, getD, set}
+use lib.Seq.{getD-set-same}
 use borrow.Author.Tests.{eqb-true, eqb-false}
 use Rattle.grammar.specs.Bytes.{Bytes}
 use Rattle.grammar.specs.Operator.{Fixity, Prefix, Infix, Postfix, Role, sameFixity, replaced, declareRole, Distinct, Alive}
@@ -21,6 +21,7 @@ use Rattle.rows.specs.Fields.{store}
 use Rattle.rows.specs.Codes.{roleOf, rolesOf, IsRole}
 use Rattle.rows.proofs.Fields.{store-same, other-field, other-entry}
 use Rattle.rows.proofs.Codes.{no-role, some-role}
+use Rattle.starting_operators.proofs.Roles.{none-coded}
 use Rattle.operators.specs.Entries.{word, nameIn, nameAt, tableBy, tableOf, hashOf, Declarable, Declared}
 use Rattle.operators.specs.declared.table.Found.{Found}
 use Rattle.operators.specs.declared.table.Found.the-variants.{At, Nothing}
@@ -28,7 +29,8 @@ use Rattle.operators.specs.declared.table.Table.{Table}
 use Rattle.operators.proofs.Numbered.{roles-equal, operators-equal, from, declared-found, declared-new}
 use Rattle.operators.proofs.TableEntries.{name-in-text}
 use Rattle.operators.proofs.Searches.{entry, found-within, table-entries, placed}
-use Rattle.operators.proofs.Starts.{none-number}
+use Rattle.operators.proofs.Hashes.{hint-kept}
+use Rattle.operators.proofs.EntryWords.{stores, stores-length, stores-other, stores-here}
 use Rattle.operators.proofs.SoundEntries.{SoundEntry, SoundAt, sound-at, all-sound, SameWords, same-entry, same-sound}
 
 -- The laws of declarations speak of digits; a precedence is the value of a digit of its own.
@@ -124,58 +126,25 @@ module _ (W : List ℕ) (at code : ℕ) where
 
 -- One more operator: its words are the name's and none for the roles; those of the other entries are kept.
 module _ (W : List ℕ) (at start size : ℕ) where
-  abbrev named-1 : List ℕ
-  named-1 = store 5 0 W at start
-
-  abbrev named-2 : List ℕ
-  named-2 = store 5 1 named-1 at size
-
-  abbrev bare-1 : List ℕ
-  bare-1 = store 5 2 named-2 at 0
-
-  abbrev bare-2 : List ℕ
-  bare-2 = store 5 3 bare-1 at 0
+  abbrev named-only : List ℕ
+  named-only = start ∷ size ∷ 0 ∷ 0 ∷ 0 ∷ []
 
   abbrev added : List ℕ
-  added = store 5 4 bare-2 at 0
+  added = stores at 0 W named-only
 
   added-length : length added ≡ length W
-  added-length = simp length-set
+  added-length = stores-length at 0 W named-only
 
   added-other : (j : ℕ) → (j ≡ at → ⊥) → SameWords added j W j
-  added-other j d l h =
-      other 4 bare-2 0 (omega arith) ∙ other 3 bare-1 0 (omega arith) ∙ other 2 named-2 0 (omega arith)
-      ∙ other 1 named-1 size (omega arith) ∙ other 0 W start (omega arith)
-    where
-      other : (k : ℕ) (W : List ℕ) (v : ℕ) → k < 5 → word l (store 5 k W at v) j ≡ word l W j
-      other k W v b = other-entry 5 k l W at j v b h (λ e. d (sym e))
+  added-other j d l h = stores-other at 0 W named-only (omega arith) j d l h
 
   module _ (n : length W ≡ 320) (h : at < 64) where
-    new : (k : ℕ) (W : List ℕ) (v : ℕ) → k < 5 → length W ≡ 320 → word k (store 5 k W at v) at ≡ v
-    new k W v b n = store-same 5 k W at v b (omega arith, omega arith)
-
-    kept : (k : ℕ) (W : List ℕ) (v l : ℕ) → k < 5 → l < k → word l (store 5 k W at v) at ≡ word l W at
-    kept k W v l b a = other-field 5 k l W at at v b (omega arith) (λ e. omega arith)
+    here : (l : ℕ) → l < 5 → word (0 + l) added at ≡ getD named-only l 0
+    here l b = stores-here at 0 W named-only (omega arith) n h l b
 
     added-here :
         (word 0 added at ≡ start) × (word 1 added at ≡ size) × (word 2 added at ≡ 0) × (word 3 added at ≡ 0) × (word 4 added at ≡ 0)
-    added-here = (
-      over-4 0 (omega arith) ∙ over-3 0 (omega arith) ∙ over-2 0 (omega arith) ∙ kept 1 named-1 size 0 (omega arith) (omega arith)
-          ∙ new 0 W start (omega arith) n,
-      over-4 1 (omega arith) ∙ over-3 1 (omega arith) ∙ over-2 1 (omega arith) ∙ new 1 named-1 size (omega arith) (simp length-set n),
-      over-4 2 (omega arith) ∙ over-3 2 (omega arith) ∙ new 2 named-2 0 (omega arith) (simp length-set n),
-      over-4 3 (omega arith) ∙ new 3 bare-1 0 (omega arith) (simp length-set n),
-      new 4 bare-2 0 (omega arith) (simp length-set n),
-    )
-      where
-        over-4 : (l : ℕ) → l < 4 → word l added at ≡ word l bare-2 at
-        over-4 l b = kept 4 bare-2 0 l (omega arith) b
-
-        over-3 : (l : ℕ) → l < 3 → word l bare-2 at ≡ word l bare-1 at
-        over-3 l b = kept 3 bare-1 0 l (omega arith) b
-
-        over-2 : (l : ℕ) → l < 2 → word l bare-1 at ≡ word l named-2 at
-        over-2 l b = kept 2 named-2 0 l (omega arith) b
+    added-here = (here 0 (omega arith), here 1 (omega arith), here 2 (omega arith), here 3 (omega arith), here 4 (omega arith))
 
     -- It stands for an operator of that name without a role, and its entry is sound.
     added-entry : (text : Bytes) → entry text added at ≡ record { name = nameIn text start size; roles = λ y. none }
@@ -189,14 +158,7 @@ module _ (W : List ℕ) (at start size : ℕ) where
     added-sound : (text H : List ℕ) → SoundEntry text H start size 0 0 0 → SoundAt text H added at
     added-sound text H s = let w = added-here in rw (w .0, w .1, w .2, w .3, w .4) s
 
--- A hint that is stored is there, and the others are there still.
-hint-kept : (H : List ℕ) (k v h : ℕ) → k < length H → 0 < getD H h 0 → 0 < getD (set H k (v + 1)) h 0
-hint-kept H k v h b p = go (eqb h k) refl
-  where
-    go : (t : Bool) → eqb h k ≡ t → 0 < getD (set H k (v + 1)) h 0
-    go true e = rw (eqb-true h k e, getD-set-same H k (v + 1) 0 b) (omega arith)
-    go false e = rw (getD-set-other H k h (v + 1) 0 (eqb-false h k e)) p
-
+-- An entry with other hints is sound too, if there is one for its hash.
 other-hints :
     {text H : List ℕ} {start size p i q : ℕ} (H′ : List ℕ) → SoundEntry text H start size p i q
     → 0 < getD H′ (hashOf (nameIn text start size)) 0 → SoundEntry text H′ start size p i q
@@ -322,7 +284,7 @@ module _ (text : Bytes) (t : Table) (found : Found) (start size hash fixity code
             inText = λ h. asked .inText;
             atStart = λ h. let s = asked .short in let i = asked .inText in let z = asked .named in absurd (omega arith);
             named = asked .named .0;
-            roles = (none-number, none-number, none-number);
+            roles = (none-coded, none-coded, none-coded);
             hinted = rw (in-text, ← asked .hashed .0, getD-set-same (t .hints) hash (n + 1) 0 (omega arith)) (omega arith);
           }))
 

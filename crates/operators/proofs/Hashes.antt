@@ -1,9 +1,13 @@
 -- The number that a name is looked up by: each of five numbers is taken off once where it can be, so that less than 128 is left.
-use mathlib.Core.Path.{_≡_}
+use mathlib.Core.Path.{_≡_, refl}
+use mathlib.Core.Bool.{Bool, true, false}
+use mathlib.Core.List.{List}
 use Prim.Native.Nat.{ℕ, _+_, _-_, _*_, _≤_, _<_}
 use native.Mathlib.Omega.{arith}
-use lib.ListN.{length, getD}
-use borrow.Author.Tests.{lt-ltb, le-ltb, le-leb, lt-leb}
+use lib.Dec.{eqb}
+use lib.ListN.{length, getD, set}
+use lib.Seq.{getD-set-same, getD-set-other}
+use borrow.Author.Tests.{eqb-true, eqb-false, lt-ltb, le-ltb, le-leb, lt-leb}
 use Rattle.grammar.specs.Bytes.{Bytes}
 use Rattle.grammar.proofs.Logic.{below}
 use Rattle.operators.specs.Entries.{lessBy, lastTwo, hashOf}
@@ -38,3 +42,11 @@ hash-below s h =
     let c : ℕ = lessBy 512 b in
     let d : ℕ = lessBy 256 c in
     less-below 128 d (less-below 256 c (less-below 512 b (less-below 1024 a (less-below 2048 (lastTwo s) h))))
+
+-- A hint that is stored is there, and the others are there still.
+pub hint-kept : (H : List ℕ) (k v h : ℕ) → k < length H → 0 < getD H h 0 → 0 < getD (set H k (v + 1)) h 0
+hint-kept H k v h b p = go (eqb h k) refl
+  where
+    go : (t : Bool) → eqb h k ≡ t → 0 < getD (set H k (v + 1)) h 0
+    go true e = rw (eqb-true h k e, getD-set-same H k (v + 1) 0 b) (omega arith)
+    go false e = rw (getD-set-other H k h (v + 1) 0 (eqb-false h k e)) p

@@ -1,11 +1,11 @@
 pub mod Roles
 pub mod Hashes
 pub mod Numbered
+pub mod EntryWords
 pub mod TableEntries
 pub mod Searches
-pub mod Starts
-pub mod StartTable
 pub mod SoundEntries
+pub mod Starts
 pub mod Declaring
 pub mod Clearing
 pub mod Lookups

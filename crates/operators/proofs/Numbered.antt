@@ -52,7 +52,7 @@ unfolding from
 from-equal f g i zero h = refl
 from-equal f g i (suc n) h = ap₂ _∷_ (h i (omega arith) (omega arith)) (from-equal f g (suc i) n (λ j a b. h j (omega arith) (omega arith)))
 
-from-suc : (f : ℕ → Operator) (i n : ℕ) → from f (suc i) n ≡ from (λ j. f (suc j)) i n
+pub from-suc : (f : ℕ → Operator) (i n : ℕ) → from f (suc i) n ≡ from (λ j. f (suc j)) i n
 unfolding from
 from-suc f i zero = refl
 from-suc f i (suc n) = ap (λ T. f (suc i) ∷ T) (from-suc f (suc i) n)

@@ -1,23 +1,23 @@
 -- What the search of a name finds in a sound table, where no two operators have one name: the entry that has the name, or none.
 -- The entries are compared one by one; what that means for the list is in `Numbered`.
-use mathlib.Core.Path.{_≡_, refl, sym, ap, ap₂, _∙_}
+use mathlib.Core.Path.{_≡_, refl, sym, ap, _∙_}
 use mathlib.Core.Bool.{Bool, true, false}
-use mathlib.Core.Logic.{inl, inr}
 use mathlib.Core.List.{List, _∷_}
-use Prim.Native.Nat.{ℕ, zero, suc, _+_, _-_, _*_, _<_, _^_}
+use Prim.Native.Nat.{ℕ, zero, suc, _+_, _-_, _<_, _^_}
 use native.Mathlib.Omega.{arith}
-use lib.ListN.{take, drop, getD}
+use lib.ListN.{getD}
+use borrow.Author.Tests.{eq-eqb}
 use Rattle.grammar.specs.Fault.{longestText}
 use Rattle.grammar.specs.Bytes.{Bytes, same}
 use Rattle.grammar.specs.Operator.{Operator}
-use Rattle.grammar.proofs.Logic.{below, same-eq, same-refl}
+use Rattle.grammar.proofs.Logic.{below, same-eq}
 use Rattle.rows.specs.Codes.{rolesOf}
+use Rattle.starting_operators.specs.Starting.{startNumber, startName}
+use Rattle.starting_operators.proofs.Numbers.{start-few, named-start}
 use Rattle.operators.specs.Entries.{
   word,
   nameStart,
   nameSize,
-  startNames,
-  startSize,
   nameAt,
   Stands,
   codedFind,
@@ -30,8 +30,7 @@ use Rattle.operators.specs.declared.table.Found.{Found}
 use Rattle.operators.specs.declared.table.Found.the-variants.{At, Nothing}
 use Rattle.operators.specs.declared.table.Table.{Table}
 use Rattle.operators.proofs.Numbered.{from, place, place-within, place-none, place-at}
-use Rattle.operators.proofs.TableEntries.{name-at-start, start-room}
-use Rattle.operators.proofs.Starts.{Starts}
+use Rattle.operators.proofs.TableEntries.{name-at-start}
 
 -- The operator at an entry; a table's operators and the search of a name, by number.
 module _ (text : Bytes) (W : List ℕ) where
@@ -65,12 +64,9 @@ module _ (text : Bytes) (t : Table) where
   placed name e = sym (find-place text (t .words) name 0 (t .count)) ∙ e
 
   module _ (sound : Sound text t) where
-    -- A name lies within the text or the starting names.
+    -- A name lies within the text or is a starting operator's.
     pub sound-stands : (j : ℕ) → j < t .count → Stands text (nameStart (t .words) j) (nameSize (t .words) j)
-    sound-stands j h = (
-      sound .inText j h,
-      λ l. let (k, b, s, z) = sound .atStart j h l in omega (arith, start-room k b),
-    )
+    sound-stands j h = (sound .inText j h, sound .atStart j h)
 
     -- So it begins at a number of the machine's own size.
     pub start-below : (j : ℕ) → j < t .count → nameStart (t .words) j < 2 ^ 64
@@ -79,7 +75,7 @@ module _ (text : Bytes) (t : Table) where
         (nameStart (t .words) j)
         longestText
         (λ l. omega arith)
-        (λ l. let (k, b, s, z) = sound .atStart j h l in omega arith)
+        (λ l. let (k, s) = sound .atStart j h l in omega (arith, start-few))
 
     -- The entry that has the name is found ..
     pub found-named : (name : Bytes) (k : ℕ) → k < t .count → same name (nameAt text (t .words) k) ≡ true → Finds name (At k)
@@ -100,13 +96,11 @@ module _ (text : Bytes) (t : Table) where
 
     -- A starting operator is at its own number, if its name is still there; no name stands at the number of none.
     pub found-start :
-        (name : Bytes) (k : ℕ) → k < t .count → Starts name k → nameStart (t .words) k ≡ longestText + k * 3 → Finds name (At k)
-    found-start name k h (inl (b, e)) s =
-        let (l, c, p, z) = sound .atStart k h (omega arith) in
-        let i : l ≡ k = omega arith in
-        let at : 3 * k ≡ nameStart (t .words) k - longestText = omega arith in
-        let q : name ≡ nameAt text (t .words) k =
-        e ∙ ap₂ (λ n m. take n (drop m startNames)) (sym (z ∙ ap startSize i)) at
-        ∙ sym (name-at-start text (nameStart (t .words) k) (nameSize (t .words) k) (omega arith)) in
-        found-named name k h (ap (same name) (sym q) ∙ same-refl name)
-    found-start name k h (inr e) s = let (l, c, p, z) = sound .atStart k h (omega arith) in absurd (omega arith)
+        (name : Bytes) (k : ℕ) → k < t .count → k ≡ startNumber name → nameStart (t .words) k ≡ longestText + k → Finds name (At k)
+    found-start name k h e s =
+        let (b, z) = sound .atStart k h (omega arith) in
+        let at : nameStart (t .words) k - longestText ≡ k = omega arith in
+        let q : startName k ≡ nameAt text (t .words) k =
+        ap startName (sym at) ∙ sym (name-at-start text (nameStart (t .words) k) (nameSize (t .words) k) (omega arith)) in
+        found-named name k h
+        (ap (same name) (sym q) ∙ sym (named-start name k (omega arith)) ∙ eq-eqb (startNumber name) k (sym e))

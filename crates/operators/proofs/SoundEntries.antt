@@ -2,21 +2,20 @@
 -- Entries with the same words stand for the same operator, and are both sound or neither.
 use mathlib.Core.Path.{_≡_}
 use mathlib.Core.List.{List}
-use Prim.Native.Nat.{ℕ, _+_, _*_, _≤_, _<_}
+use Prim.Native.Nat.{ℕ, _≤_, _<_}
 use native.Mathlib.Omega.{arith}
-use lib.ListN.{length, getD}
-use Rattle.grammar.specs.Fault.{longestText}
+use lib.ListN.{getD}
 use Rattle.grammar.specs.Bytes.{Bytes}
 use Rattle.grammar.specs.Operator as G
 use Rattle.grammar.specs.Declaration.{mostOperators}
 use Rattle.rows.specs.Codes.{rolesOf, IsRole}
-use Rattle.operators.specs.Entries.{word, startSize, nameIn, tableOf, hashOf, Sound}
+use Rattle.operators.specs.Entries.{word, nameIn, InText, AtStart, tableOf, hashOf, Sound}
 use Rattle.operators.specs.declared.table.Table.{Table}
 use Rattle.operators.proofs.Searches.{entry}
 
 pub record SoundEntry (text : Bytes) (H : List ℕ) (start size p i q : ℕ) : Type 0 where
-  pub inText : start < longestText → start + size ≤ length text
-  pub atStart : longestText ≤ start → (k : ℕ) × (k < 8) × (start ≡ longestText + 3 * k) × (size ≡ startSize k)
+  pub inText : InText text start size
+  pub atStart : AtStart start size
   pub named : 1 ≤ size
   pub roles : IsRole p × IsRole i × IsRole q
   pub hinted : 0 < getD H (hashOf (nameIn text start size)) 0

@@ -1,9 +1,9 @@
 -- Laws of a table's words, each for one turn of a loop: the name at an entry, the search of a name, a test of every operator.
 -- They unfold the definitions of `Entries` once.
-use mathlib.Core.Path.{_≡_, refl, sym, ap}
+use mathlib.Core.Path.{_≡_, sym, ap}
 use mathlib.Core.Bool.{Bool, true, false}
 use mathlib.Core.List.{List}
-use Prim.Native.Nat.{ℕ, zero, suc, _+_, _-_, _*_, _≤_, _<_}
+use Prim.Native.Nat.{ℕ, suc, _+_, _-_, _≤_, _<_, _^_}
 use native.Mathlib.Numerals.{add-one}
 use native.Mathlib.Omega.{arith}
 use lib.ListN.{length, take, drop, length-take, length-drop}
@@ -11,26 +11,21 @@ use borrow.Author.Tests.{lt-ltb, le-ltb}
 use Rattle.grammar.specs.Fault.{longestText}
 use Rattle.grammar.specs.Bytes.{Bytes, same}
 use Rattle.grammar.specs.Operator.{Roles, Table, isApart, lawful, everyOperator, permitted}
-use Rattle.grammar.proofs.Logic.{below, same-eq}
+use Rattle.grammar.proofs.Logic.{below}
 use Rattle.rows.specs.Codes.{rolesOf}
-use Rattle.operators.specs.Entries.{word, startNames, startSize, nameIn, nameAt, Stands, codedFind, operatorsFrom}
+use Rattle.starting_operators.specs.Starting.{startName}
+use Rattle.starting_operators.proofs.Numbers.{start-few}
+use Rattle.starting_operators.proofs.NameSizes.{name-sizes}
+use Rattle.operators.specs.Entries.{word, nameIn, nameAt, Stands, codedFind, operatorsFrom}
 use Rattle.operators.specs.declared.table.Found.the-variants.{At, Nothing}
 
--- Names of different lengths are different.
-pub other-length : (x y : Bytes) → (length x ≡ length y → ⊥) → same x y ≡ false
-other-length x y d = go (same x y) refl
-  where
-    go : (b : Bool) → same x y ≡ b → b ≡ false
-    go true e = absurd (d (ap length (same-eq x y e)))
-    go false e = refl
-
--- A name is a part of the text, or of the starting names, with as many bytes as it is said to have.
+-- A name is a part of the text, or that of a starting operator, with as many bytes as it is said to have.
 module _ (text : Bytes) (start size : ℕ) where
   pub name-in-text : start < longestText → nameIn text start size ≡ take size (drop start text)
   unfolding nameIn
   name-in-text h = rw (lt-ltb start longestText h, nameIn)
 
-  pub name-at-start : longestText ≤ start → nameIn text start size ≡ take size (drop (start - longestText) startNames)
+  pub name-at-start : longestText ≤ start → nameIn text start size ≡ startName (start - longestText)
   unfolding nameIn
   name-at-start h = rw (le-ltb start longestText h, nameIn)
 
@@ -38,19 +33,12 @@ module _ (text : Bytes) (start size : ℕ) where
   name-length (p, q) =
       below start longestText
       (λ h. rw (name-in-text h) (simp (length-take, length-drop) (omega (arith, p h))))
-      (λ h. rw (name-at-start h) (simp (length-take, length-drop) (omega (arith, q h))))
+      (λ h. rw (name-at-start h) (sym (q h .1)))
 
-  -- So where it ends can be said.
-  pub name-end : (n : ℕ) → Stands text start size → length text < n → longestText + length startNames < n → start + size < n
-  name-end n (p, q) a b = below start longestText (λ h. omega (arith, p h)) (λ h. omega (arith, q h))
-
--- Each starting name has its bytes among them.
-pub start-room : (k : ℕ) → k < 8 → 3 * k + startSize k ≤ length startNames
-unfolding startSize
-start-room zero h = omega arith
-start-room (suc zero) h = omega arith
-start-room (suc (suc zero)) h = omega arith
-start-room (suc (suc (suc k))) h = omega arith
+  -- So it ends at a number of the machine's own size.
+  pub name-end : Stands text start size → length text < 2 ^ 64 → start + size < 2 ^ 64
+  name-end (p, q) a =
+      below start longestText (λ h. omega (arith, p h)) (λ h. let (k, s) = q h in omega (arith, start-few, name-sizes _ k))
 
 -- Looking for a name: from the first entry on ..
 pub find-all : (text : Bytes) (W : List ℕ) (name : Bytes) (n : ℕ) → codedFind text W name 0 n ≡ codedFind text W name 0 (n - 0)

@@ -7,13 +7,13 @@ use Prim.Native.Nat.{ℕ, zero, suc, _+_, _-_, _*_, _≤_, _<_}
 use lib.Dec.{ltb, leb}
 use lib.ListN.{length, take, drop, getD, set}
 use Rattle.grammar.specs.Fault.{longestText}
-use Rattle.grammar.specs.Bytes.{Bytes, bytes, same}
+use Rattle.grammar.specs.Bytes.{Bytes, same}
 use Rattle.grammar.specs.Operator.{Role}
 use Rattle.grammar.specs.Operator as G
 use Rattle.grammar.specs.Declaration.{mostOperators, startTable}
 use Rattle.grammar.specs.Coded.{fixityOf}
 use Rattle.rows.specs.Codes.{roleCode, roleOf, rolesOf, IsRole}
-use Rattle.starting_operators.specs.Starting.{startRoles}
+use Rattle.starting_operators.specs.Starting.{startName, startRoles, startCount}
 use Rattle.operators.specs.declared.table.Found.{Found}
 use Rattle.operators.specs.declared.table.Found.the-variants.{At, Nothing}
 use Rattle.operators.specs.declared.table.Quick.{Quick}
@@ -30,28 +30,23 @@ nameStart W i = word 0 W i
 abbrev pub nameSize : List ℕ → ℕ → ℕ
 nameSize W i = word 1 W i
 
--- The names of the starting operators, three bytes to each, and how many bytes each has.
-abbrev pub startNames : Bytes
-startNames = bytes "or andnot=  <  +  -  *"
-
-unfoldable pub startSize : ℕ → ℕ
-startSize zero = 2
-startSize (suc zero) = 3
-startSize (suc (suc zero)) = 3
-startSize (suc (suc (suc k))) = 1
-
--- A name: a part of the text, or, from offset 16,384 on, of the starting names.
+-- A name: a part of the text, or, from offset 16,384 on, that of the starting operator with the number that is left.
 unfoldable pub nameIn : Bytes → ℕ → ℕ → Bytes
 nameIn text start size =
-    elim (ltb start longestText) [ true ↦ take size (drop start text) | false ↦ take size (drop (start - longestText) startNames) ]
+    elim (ltb start longestText) [ true ↦ take size (drop start text) | false ↦ startName (start - longestText) ]
 
 abbrev pub nameAt : Bytes → List ℕ → ℕ → Bytes
 nameAt text W i = nameIn text (nameStart W i) (nameSize W i)
 
--- A name lies within the text, or within the starting names.
+-- A name lies within the text, or is that of a starting operator, with as many bytes.
+abbrev pub InText : Bytes → ℕ → ℕ → Type 0
+InText text start size = start < longestText → start + size ≤ length text
+
+abbrev pub AtStart : ℕ → ℕ → Type 0
+AtStart start size = longestText ≤ start → (start - longestText < startCount) × (size ≡ length (startName (start - longestText)))
+
 abbrev pub Stands : Bytes → ℕ → ℕ → Type 0
-Stands text start size =
-    (start < longestText → start + size ≤ length text) × (longestText ≤ start → start + size ≤ longestText + length startNames)
+Stands text start size = InText text start size × AtStart start size
 
 -- The first of `n` entries from number `i` on that has the name.
 unfoldable pub codedFind : Bytes → List ℕ → Bytes → ℕ → ℕ → Found
@@ -85,14 +80,12 @@ lastTwo name =
 unfoldable pub hashOf : Bytes → ℕ
 hashOf name = lessBy 128 (lessBy 256 (lessBy 512 (lessBy 1024 (lessBy 2048 (lastTwo name)))))
 
--- What holds of every table: room for its operators; a name that is a part of the text, or one of the starting names; numbers of roles; a
+-- What holds of every table: room for its operators; a name that is a part of the text, or a starting operator's; numbers of roles; a
 -- hint for its hash. No two operators have one name, and each has a role.
 pub record Sound (text : Bytes) (t : Table) : Type 0 where
   pub sized : t .count ≤ mostOperators
-  pub inText : (j : ℕ) → j < t .count → nameStart (t .words) j < longestText → nameStart (t .words) j + nameSize (t .words) j ≤ length text
-  pub atStart :
-      (j : ℕ) → j < t .count → longestText ≤ nameStart (t .words) j
-      → (k : ℕ) × (k < 8) × (nameStart (t .words) j ≡ longestText + 3 * k) × (nameSize (t .words) j ≡ startSize k)
+  pub inText : (j : ℕ) → j < t .count → InText text (nameStart (t .words) j) (nameSize (t .words) j)
+  pub atStart : (j : ℕ) → j < t .count → AtStart (nameStart (t .words) j) (nameSize (t .words) j)
   pub named : (j : ℕ) → j < t .count → 1 ≤ nameSize (t .words) j
   pub roles : (j : ℕ) → j < t .count → IsRole (word 2 (t .words) j) × IsRole (word 3 (t .words) j) × IsRole (word 4 (t .words) j)
   pub hinted : (j : ℕ) → j < t .count → 0 < getD (t .hints) (hashOf (nameAt text (t .words) j)) 0
@@ -100,19 +93,21 @@ pub record Sound (text : Bytes) (t : Table) : Type 0 where
   pub alive : G.Alive (tableOf text t)
 
 -- The words and the hints with the entry of the starting operator with number `n`; and room for it.
-abbrev pub startedWords : List ℕ → ℕ → Bytes → List ℕ
-startedWords W n name =
-    set (set (set (set W (n * 5 + 0) (longestText + n * 3)) (n * 5 + 1) (length name)) (n * 5 + 2) (roleCode (startRoles n G.Prefix))) (n * 5 + 3)
-    (roleCode (startRoles n G.Infix))
+abbrev pub startedWords : List ℕ → ℕ → List ℕ
+startedWords W n =
+    set
+    (set
+    (set (set W (n * 5 + 0) (longestText + n)) (n * 5 + 1) (length (startName n)))
+    (n * 5 + 2) (roleCode (startRoles n G.Prefix)))
+    (n * 5 + 3) (roleCode (startRoles n G.Infix))
 
-abbrev pub startedHints : List ℕ → ℕ → Bytes → List ℕ
-startedHints H n name = set H (hashOf name) (n + 1)
+abbrev pub startedHints : List ℕ → ℕ → List ℕ
+startedHints H n = set H (hashOf (startName n)) (n + 1)
 
-pub record Puttable (W H : List ℕ) (n : ℕ) (name : Bytes) : Type 0 where
+pub record Puttable (W H : List ℕ) (n : ℕ) : Type 0 where
   pub words : length W ≡ 320
   pub hints : length H ≡ 128
-  pub starting : n < 8
-  pub named : (1 ≤ length name) × (length name ≤ 63)
+  pub starting : n < startCount
 
 -- The table of the starting operators, whatever the text.
 abbrev pub Starting : Table → Type 0

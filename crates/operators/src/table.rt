@@ -7,8 +7,10 @@ ghost use mathlib.Core.List.{List};
 ghost use Prim.Native.Nat.{ℕ, _<_};
 ghost use Rattle.grammar.specs.Bytes.{Bytes, same};
 ghost use Rattle.grammar.specs.Operator.{lawful, everyOperator, permitted};
+ghost use Rattle.starting_operators.specs.Starting.{startNumber};
 ghost use Rattle.operators.specs.Entries.{word, nameStart, nameSize, nameIn, nameAt, Stands, codedFind, operatorsFrom, tableBy, hashOf, Sound};
-ghost use Rattle.operators.specs.Entries.{Puttable, startedWords, startedHints, Starting, IsName, Quickly, Declarable, Declared, Clearable, Cleared};
+ghost use Rattle.operators.specs.Entries.{Puttable, startedWords, startedHints, Starting, IsName, Quickly};
+ghost use Rattle.operators.specs.Entries.{Declarable, Declared, Clearable, Cleared};
 
 pub const MAX_OPERATORS: usize = 64;
 
@@ -25,7 +27,7 @@ const INFIX: usize = 3;
 
 const POSTFIX: usize = 4;
 
-// From this offset on a name stands among those of the starting operators, three bytes to each.
+// From this offset on a name is that of a starting operator, by its number.
 const NAMES: usize = 16384;
 
 // The latest operator whose name has a hash stands in `hints`, one more than its entry; 0 where there never was one.
@@ -90,22 +92,19 @@ pub fn postfix<'a>(words: &'a [u16; 320], entry: usize) -> u16
     words[entry * WORDS + POSTFIX]
 }
 
-// Whether the name at an offset of the text, or of the starting names, is `name`.
-pub fn is_named(text: &[u8], start: usize, size: usize, name: &[u8]) -> bool
-    requires { ⌜ Stands (now text) start size ⌝ }
+// Whether the name at an offset of the text, or of the starting operator with a number, is `name`, which has the number `number` among these.
+pub fn is_named(text: &[u8], start: usize, size: usize, name: &[u8], number: usize) -> bool
+    requires { ⌜ Stands (now text) start size × (number ≡ startNumber (now name)) ⌝ }
     ensures { λ r. ⌜ r ≡ same (now (name .entry)) (nameIn (now (text .entry)) start size) ⌝ }
 {
     if name.len() != size {
         return false;
     }
-    let e = start + size;
     if start < NAMES {
+        let e = start + size;
         return byte_strings::equal(name, &text[start..e]);
     }
-    byte_strings::equal(
-        name,
-        byte_strings::cut(b"or andnot=  <  +  -  *", start - NAMES, size),
-    )
+    number == start - NAMES
 }
 
 // What can be said of a name before it is compared with the names that were declared.
@@ -128,7 +127,7 @@ pub fn find_quickly<'a>(
     // A starting operator has its number as its entry, if none before it was removed. No name has the offset of number COUNT.
     let entry = number::number(name);
     if entry < count {
-        if words[entry * WORDS + START] as usize == NAMES + entry * 3 {
+        if words[entry * WORDS + START] as usize == NAMES + entry {
             return Quick::At { entry };
         }
     }
@@ -138,9 +137,9 @@ pub fn find_quickly<'a>(
     Quick::Unknown
 }
 
-// Whether entry `i` has the name.
-fn has_name<'a>(text: &[u8], words: &'a [u16; 320], i: usize, name: &[u8]) -> bool
-    requires { ⌜ (i < 64) × Stands (now text) (nameStart (now words) i) (nameSize (now words) i) ⌝ }
+// Whether entry `i` has the name, which has the number `number` among those of starting operators.
+fn has_name<'a>(text: &[u8], words: &'a [u16; 320], i: usize, name: &[u8], number: usize) -> bool
+    requires { ⌜ (i < 64) × Stands (now text) (nameStart (now words) i) (nameSize (now words) i) × (number ≡ startNumber (now name)) ⌝ }
     ensures { λ r. ⌜ r ≡ same (now (name .entry)) (nameAt (now (text .entry)) (now (words .entry)) i) ⌝ }
 {
     let w = i * WORDS;
@@ -149,6 +148,7 @@ fn has_name<'a>(text: &[u8], words: &'a [u16; 320], i: usize, name: &[u8]) -> bo
         words[w + START] as usize,
         words[w + SIZE] as usize,
         name,
+        number,
     )
 }
 
@@ -174,15 +174,16 @@ pub fn find<'a>(
     if hint == 0 {
         return Found::Nothing;
     }
+    let number = number::number(name);
     if hint <= count {
         let entry = hint - 1;
-        if has_name(text, words, entry, name) {
+        if has_name(text, words, entry, name, number) {
             return Found::At { entry };
         }
     }
     let mut i: usize = 0;
     while i < count {
-        if has_name(text, words, i, name) {
+        if has_name(text, words, i, name, number) {
             return Found::At { entry: i };
         }
         i += 1;
@@ -190,18 +191,21 @@ pub fn find<'a>(
     Found::Nothing
 }
 
-// The entry of the starting operator with a number and a name, where nothing stands yet, and the hint for its hash.
-fn put(words: &mut [u16], hints: &mut [u8], number: usize, name: &[u8])
-    requires { ⌜ Puttable (now words) (now hints) number (now name) ⌝ }
-    ensures { λ _. ⌜ (now (words .exit) ≡ startedWords (now (words .entry)) number (now (name .entry)))
-        × (now (hints .exit) ≡ startedHints (now (hints .entry)) number (now (name .entry))) ⌝ }
+// The entry of the starting operator with a number, where nothing stands yet, and the hint for its hash.
+fn put(words: &mut [u16], hints: &mut [u8], number: usize)
+    requires { ⌜ Puttable (now words) (now hints) number ⌝ }
+    ensures { λ _. ⌜ (now (words .exit) ≡ startedWords (now (words .entry)) number)
+        × (now (hints .exit) ≡ startedHints (now (hints .entry)) number) ⌝ }
 {
+    let o = number::operator(number);
+    let written = o.name;
+    let n = o.size;
     let w = number * WORDS;
-    words[w + START] = (NAMES + number * 3) as u16;
-    words[w + SIZE] = name.len() as u16;
-    words[w + PREFIX] = number::prefix(number);
-    words[w + INFIX] = number::infix(number);
-    hints[hash(name)] = (number + 1) as u8;
+    words[w + START] = (NAMES + number) as u16;
+    words[w + SIZE] = n as u16;
+    words[w + PREFIX] = o.prefix;
+    words[w + INFIX] = o.infix;
+    hints[hash(&written[0..n])] = (number + 1) as u8;
 }
 
 impl Table {
@@ -211,14 +215,11 @@ impl Table {
     {
         let mut words = [0u16; 320];
         let mut hints = [0u8; 128];
-        put(&mut words, &mut hints, number::OR, b"or");
-        put(&mut words, &mut hints, number::AND, b"and");
-        put(&mut words, &mut hints, number::NOT, b"not");
-        put(&mut words, &mut hints, number::EQUAL, b"=");
-        put(&mut words, &mut hints, number::LESS, b"<");
-        put(&mut words, &mut hints, number::PLUS, b"+");
-        put(&mut words, &mut hints, number::MINUS, b"-");
-        put(&mut words, &mut hints, number::TIMES, b"*");
+        let mut k: usize = 0;
+        while k < number::COUNT {
+            put(&mut words, &mut hints, k);
+            k += 1;
+        }
         Table {
             words,
             hints,

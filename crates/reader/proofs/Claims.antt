@@ -43,7 +43,7 @@ use Rattle.grammar.proofs.BlankRules as BlankRules
 use Rattle.grammar.proofs.ReservedRoles as ReservedRoles
 use Rattle.reader.specs.declared.Answer.{Answer}
 use Rattle.reader.specs.Answered.{written, Reads, Canonicalizes, nodeWritten, WritesName}
-use Rattle.reader.specs.Demands.{RightAnswer, TableFits, BufferFits, TableHolds, BufferHolds, RightReading, RightCanonical, OnlyReading, OnlyCanonical, Canonicalized, AtomAt, NameWritten}
+use Rattle.reader.specs.Demands.{RightAnswer, TableFits, TableTooShort, BufferTooShort, TableHolds, BufferHolds, RightReading, RightCanonical, OnlyReading, OnlyCanonical, Canonicalized, AtomAt, NameWritten}
 use Rattle.reader.proofs.ReadCalls as ReadCalls
 use Rattle.reader.proofs.NameCalls as NameCalls
 use Rattle.reader.proofs.CanonicalCalls as CanonicalCalls
@@ -52,10 +52,10 @@ use Rattle.reader.proofs.Settled as Settled
 
 -- Demand 1. Whatever bytes come in: a reading, or one of the numbered refusals with its place, each exactly where documents 01 and 02 call for it;
 -- a refusal changes no word or byte of the lent buffers.
-pub read-answers : (text : Bytes) (N N′ : List ℕ) (a : Answer) → Reads text N N′ a → RightAnswer 12 (TableFits N) text N N′ a
+pub read-answers : (text : Bytes) (N N′ : List ℕ) (a : Answer) → Reads text N N′ a → RightAnswer (TableTooShort N) text N N′ a
 read-answers = ReadCalls.answers
 
-pub canonicalize-answers : (text : Bytes) (B B′ : List ℕ) (a : Answer) → Canonicalizes text B B′ a → RightAnswer 13 (BufferFits B) text B B′ a
+pub canonicalize-answers : (text : Bytes) (B B′ : List ℕ) (a : Answer) → Canonicalizes text B B′ a → RightAnswer (BufferTooShort B) text B B′ a
 canonicalize-answers = CanonicalCalls.answers
 
 -- At most one of the rows 1 to 10 and 17 holds of a text, at one place.
@@ -176,7 +176,7 @@ pub same-names :
 same-names = Names.written-alike
 
 -- `AtomAt text N k x`: node k of a table that `read` left for the text is that of the name, number or operator x. It gives the bytes as written
--- (`tree-held`), and these are what `characters` hands out (`nodeWritten`). So comparing two such parts of texts tells names apart by their
+-- (`tree-held`), and these are what `as_written` hands out (`nodeWritten`). So comparing two such parts of texts tells names apart by their
 -- characters, although a name's characters are not always a part of the text.
 pub parts-compared :
     (text other : Bytes) (N M : List ℕ) (k l : ℕ) (x y : Atom) → AtomAt text N k x → AtomAt other M l y

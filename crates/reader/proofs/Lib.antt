@@ -1,7 +1,4 @@
-pub mod Reading
-pub mod Writing
-pub mod Locating
-pub mod Serving
+pub mod HandedOut
 pub mod Fits
 pub mod NameWriting
 pub mod NodeCharacters

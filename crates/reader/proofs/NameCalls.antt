@@ -15,13 +15,13 @@ use Rattle.grammar.proofs.Names.{written-characters, written-alike}
 use Rattle.grammar.proofs.NodeTokens.{node-token}
 use Rattle.grammar.proofs.BlankRules.{reading-spelled}
 use Rattle.reader.specs.declared.Answer.{Answer}
-use Rattle.reader.specs.Answered.{answerOf, resultOf, written, nodeWritten, WritesName}
+use Rattle.reader.specs.Answered.{resultOf, written, nodeWritten, WritesName}
 use Rattle.reader.specs.Demands.{AtomAt, NameWritten}
 use Rattle.reader.proofs.NameWriting.{name-fits, name-short}
 use Rattle.reader.proofs.ReadCalls as ReadCalls
 
 same-result : {a b : Answer} {B C : List ℕ} → resultOf a B ≡ resultOf b C → (a ≡ b) × (B ≡ C)
-unfolding answerOf resultOf
+unfolding resultOf
 same-result e = (ap (λ r. record { number = r .answer .number; offset = r .answer .offset; count = r .answer .count }) e, ap (λ r. r .buffer) e)
 
 -- The bytes of an atom that is a token.

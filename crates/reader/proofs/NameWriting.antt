@@ -7,14 +7,14 @@ use borrow.Author.Tests.{le-leb, lt-leb}
 use Rattle.grammar.specs.Bytes.{Bytes}
 use Rattle.grammar.specs.Token.{undoubled}
 use Rattle.grammar.specs.Answer as G
-use Rattle.grammar.specs.Answer.{over, rejection, success}
-use Rattle.reader.specs.Answered.{answerOf, resultOf, refusedWith, written}
+use Rattle.grammar.specs.Answer.{answered, bytesThat, over, rejection, success}
+use Rattle.reader.specs.Answered.{resultOf, refusedWith, written}
 
 module _ (w : Bytes) (B : List ℕ) where
   pub name-fits : length (undoubled w) ≤ length B → G.writeName w B ≡ resultOf (written (length (undoubled w))) (over (undoubled w) B)
-  unfolding G.writeName success answerOf resultOf
-  name-fits l = rw (le-leb (length (undoubled w)) (length B) l, G.writeName)
+  unfolding G.writeName answered bytesThat success resultOf
+  name-fits l = rw (le-leb (length (undoubled w)) (length B) l, bytesThat)
 
   pub name-short : length B < length (undoubled w) → G.writeName w B ≡ resultOf (refusedWith 13 0) B
-  unfolding G.writeName rejection answerOf resultOf
-  name-short l = rw (lt-leb (length (undoubled w)) (length B) l, G.writeName)
+  unfolding G.writeName answered bytesThat rejection resultOf
+  name-short l = rw (lt-leb (length (undoubled w)) (length B) l, bytesThat)

@@ -1,25 +1,27 @@
 -- Calls of `read`: six words to a node, 12 where they do not fit; what the node table then holds is what the text reads as.
 use mathlib.Core.Path.{_≡_, refl, sym, ap, subst, _∙_}
-use mathlib.Core.Bool.{Bool}
+use mathlib.Core.Logic.{_↔_}
+use mathlib.Core.Bool.{Bool, true, false}
 use mathlib.Core.List.{List, _++_}
 use Prim.Native.Nat.{ℕ, _*_, _<_}
 use native.Mathlib.Omega.{arith}
 use lib.Dec.{leb}
 use lib.ListN.{length, take, drop}
 use lib.Seq.{take-append-seam, drop-append-seam}
-use borrow.Author.Tests.{leb-true, le-leb}
+use borrow.Author.Tests.{leb-true, leb-false}
 use Rattle.grammar.specs.Bytes.{Bytes}
 use Rattle.grammar.specs.Token.{Token}
 use Rattle.grammar.specs.Outcome.{Outcome, refused, passed}
 use Rattle.grammar.specs.Declaration.{startTable}
 use Rattle.grammar.specs.Tree.{Tree}
 use Rattle.grammar.specs.Nodes.{count, wordsPerNode}
-use Rattle.grammar.specs.Claim.{ReadingOf}
+use Rattle.grammar.specs.Claim.{FirstWithout, ReadingOf}
 use Rattle.grammar.specs.Answer as G
-use Rattle.grammar.specs.Answer.{Reading, offsetOf, readText, readInto, readingWords, over}
+use Rattle.grammar.specs.Answer.{Reading, Written, offsetOf, readText, nodesInto, readingWords, over}
 use Rattle.grammar.specs.Spelling.{TokenAt}
 use Rattle.grammar.specs.Fault.{current, Past}
 use Rattle.grammar.specs.NodePrecedence.{NodePrecedence}
+use Rattle.grammar.proofs.Logic.{impossible}
 use Rattle.grammar.proofs.Scanned.{length-tokens}
 use Rattle.grammar.proofs.TokenFaults.{token-at}
 use Rattle.grammar.proofs.Operands.{words-length}
@@ -30,34 +32,59 @@ use Rattle.grammar.proofs.NodePrecedences as NodePrecedences
 use Rattle.grammar.proofs.Rules.{reading-of, same-reading}
 use Rattle.grammar.proofs.BlankRules.{reading-tokens}
 use Rattle.reader.specs.declared.Answer.{Answer}
-use Rattle.reader.specs.Answered.{resultOf, Reads}
-use Rattle.reader.specs.Demands.{RightAnswer, TableFits, TableHolds, RightReading}
+use Rattle.reader.specs.Answered.{Reads}
+use Rattle.reader.specs.Demands.{RightAnswer, TableTooShort, TableHolds, RightReading}
 use Rattle.reader.proofs.NodeCharacters as NodeCharacters
 use Rattle.reader.proofs.Calls as Calls
-use Rattle.reader.proofs.Calls.{ownPlace, served}
+use Rattle.reader.proofs.Calls.{Gives, Call, read-checks}
 
-tableFits : List ℕ → Reading → Bool
-tableFits N r = leb (wordsPerNode * count (r .tree)) (length N)
+-- Reading refuses with 12 what does not fit, and else gives the words of the tree.
+module _ (text : Bytes) (N : List ℕ) (r : Reading) where
+  -- What it gives, and a refusal.
+  abbrev nodes : Written
+  nodes = record { counted = count (r .tree); contents = readingWords text r }
 
-nodesOf : Reading → ℕ
-nodesOf r = count (r .tree)
+  abbrev short : Outcome Written
+  short = refused 12 0
+
+  judged : (n p : ℕ) → (nodesInto text N r ≡ refused n p) ↔ TableTooShort N (r .tree) n p
+  unfolding nodesInto
+  judged n p = go (leb (wordsPerNode * count (r .tree)) (length N)) refl
+    where
+      go : (b : Bool) → leb (wordsPerNode * count (r .tree)) (length N) ≡ b → (nodesInto text N r ≡ refused n p) ↔ TableTooShort N (r .tree) n p
+      go true e = (
+        λ h. let z : passed nodes ≡ refused n p = rw (e, nodesInto) at h in impossible cc,
+        λ o. absurd (omega (arith, leb-true (wordsPerNode * count (r .tree)) (length N) e)),
+      )
+      go false e = (
+        λ h. let z : short ≡ refused n p = rw (e, nodesInto) at h in (cc, cc, leb-false (wordsPerNode * count (r .tree)) (length N) e),
+        λ (f, g, l). rw (e, nodesInto) (let z : short ≡ refused n p = cc (f, g) in z),
+      )
+
+  given : (w : Written) → nodesInto text N r ≡ passed w → (count (r .tree) ≡ w .counted) × (readingWords text r ≡ w .contents)
+  unfolding nodesInto
+  given w = go (leb (wordsPerNode * count (r .tree)) (length N)) refl
+    where
+      go :
+          (b : Bool) → leb (wordsPerNode * count (r .tree)) (length N) ≡ b → nodesInto text N r ≡ passed w
+          → (count (r .tree) ≡ w .counted) × (readingWords text r ≡ w .contents)
+      go true e h =
+          let z : passed nodes ≡ passed w = rw (e, nodesInto) at h in
+          let y : nodes ≡ w = cc in
+          (ap (λ v. v .counted) y, ap (λ v. v .contents) y)
+      go false e h = let z : short ≡ passed w = rw (e, nodesInto) at h in impossible cc
+
+gives : (text : Bytes) (N : List ℕ) → Gives (TableTooShort N) (nodesInto text N)
+gives text N = record { judged = judged text N; numbers = λ t n p (e, f, l). (omega arith, λ g. omega arith) }
 
 -- Reading is such a service.
-reading :
-    (text : Bytes) (N N′ : List ℕ) (a : Answer) → Reads text N N′ a
-    → resultOf a N′ ≡ served ownPlace 12 (tableFits N) nodesOf (readingWords text) N (readText text)
-unfolding G.read readInto served tableFits nodesOf
-reading text N N′ a h = h ∙ go (readText text)
-  where
-    go : (o : Outcome Reading) → readInto text N o ≡ served ownPlace 12 (tableFits N) nodesOf (readingWords text) N o
-    go (refused n p) = refl
-    go (passed r) = refl
+module _ (text : Bytes) (N N′ : List ℕ) (a : Answer) (h : Reads text N N′ a) where
+  call : Call FirstWithout (TableTooShort N) (nodesInto text N) text N N′ a
+  unfolding G.read
+  call = record { gives = gives text N; outcome = readText text; checks = read-checks text; result = h }
 
-pub answers : (text : Bytes) (N N′ : List ℕ) (a : Answer) → Reads text N N′ a → RightAnswer 12 (TableFits N) text N N′ a
-unfolding tableFits
-answers text N N′ a h =
-    Calls.answers 12 (tableFits N) nodesOf (readingWords text) (omega arith) text N N′ a (reading text N N′ a h) (TableFits N)
-    (λ r. (leb-true (wordsPerNode * count (r .tree)) (length N), le-leb (wordsPerNode * count (r .tree)) (length N)))
+  pub answers : RightAnswer (TableTooShort N) text N N′ a
+  answers = Calls.answers call
 
 -- The table that holds the words of what was read.
 module _ (text : Bytes) (N N′ : List ℕ) (r : Reading) (e : readText text ≡ passed r) (w : N′ ≡ over (readingWords text r) N) where
@@ -89,12 +116,12 @@ module _ (text : Bytes) (N N′ : List ℕ) (r : Reading) (e : readText text ≡
 
 pub tree-held :
     (text : Bytes) (N N′ : List ℕ) (a : Answer) → Reads text N N′ a → a .number ≡ 0 → (t : Tree) → ReadingOf text t → TableHolds text N N′ (a .count) t
-unfolding nodesOf
 tree-held text N N′ a h z t i =
-    let (r, e, f, c, w) =
-    Calls.success-read 12 (tableFits N) nodesOf (readingWords text) (omega arith) text N N′ a (reading text N N′ a h) z in
+    let (r, e, v, g, c, w) = Calls.success-read (call text N N′ a h) z in
+    let (counted, words) = given text N r v g in
     let same : r .tree ≡ t = same-reading text (r .tree) t (reading-of text r e) i in
-    rw c (subst (λ u. TableHolds text N N′ (count (r .tree)) u) same (reading-holds text N N′ r e w))
+    rw (c ∙ sym counted)
+    (subst (λ u. TableHolds text N N′ (count (r .tree)) u) same (reading-holds text N N′ r e (w ∙ ap (λ m. over m N) (sym words))))
 
 -- The precedence of each node, by the text's own tokens and their spans.
 pub node-precedences :

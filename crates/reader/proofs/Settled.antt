@@ -1,27 +1,29 @@
 -- What is asked of a call settles its answer and its buffer: the number says which of the demands applies, and that one gives the rest.
 -- It speaks of the rules only through the rows that hold of the text, so it is asked alike where these are alike.
 use mathlib.Core.Path.{_≡_, refl, sym, ap, ap₂, _∙_}
-use mathlib.Core.Logic.{_⊎_, inl, inr, ⊎-elim}
+use mathlib.Core.Logic.{inl, inr, ⊎-elim}
 use mathlib.Core.Bool.{Bool, true, false}
 use mathlib.Core.List.{List, _++_}
-use Prim.Native.Nat.{ℕ, zero, suc, _*_, _≤_, _<_}
+use Prim.Native.Nat.{ℕ, _*_, _≤_, _<_}
 use native.Mathlib.Omega.{arith}
-use lib.Dec.{leb}
-use borrow.Author.Tests.{leb-true, leb-false}
+use lib.Dec.{eqb}
+use borrow.Author.Tests.{eqb-true}
 use lib.ListN.{take, drop, take-append-drop}
 use Rattle.grammar.specs.Bytes.{Bytes}
+use Rattle.grammar.specs.Token.{Token}
 use Rattle.grammar.specs.Tree.{Tree}
 use Rattle.grammar.specs.Nodes.{wordsPerNode}
 use Rattle.grammar.specs.Declaration.{startTable, isReserved}
 use Rattle.grammar.specs.Operator.{Permitted}
 use Rattle.grammar.specs.Fault.{Rules, current, withoutReserving, withFourConditions, BeforeEleven, Unreserved, Conditioned}
+use Rattle.grammar.proofs.Logic.{below, clash}
 use Rattle.grammar.proofs.TokenFaults.{goes-on-unique}
 use Rattle.grammar.proofs.WordsOffsets.{words-offsets}
 use Rattle.grammar.proofs.RulesAlike.{Alike, alike-back, same-past, same-readings}
 use Rattle.grammar.proofs.ReservedNames.{reserved-alike}
 use Rattle.grammar.proofs.FourConditions.{conditions-alike}
 use Rattle.reader.specs.declared.Answer.{Answer}
-use Rattle.reader.specs.Demands.{RightAnswerUnder, TableHolds, BufferHolds, Right, RightReading, RightCanonical, OnlyReading, OnlyCanonical}
+use Rattle.reader.specs.Demands.{IsOwn, RightAnswerUnder, TableHolds, BufferHolds, Right, RightReading, RightCanonical, OnlyReading, OnlyCanonical}
 use Rattle.reader.specs.Answered.{Reads, Canonicalizes}
 use Rattle.reader.proofs.ReadCalls as ReadCalls
 use Rattle.reader.proofs.CanonicalCalls as CanonicalCalls
@@ -53,103 +55,106 @@ buffer-settled B t C C′ c d h g =
 pub same-answer : {a b : Answer} → a .number ≡ b .number → a .offset ≡ b .offset → a .count ≡ b .count → a ≡ b
 same-answer n p c i = record { number = n i; offset = p i; count = c i }
 
-pub ten-or-eleven : (k : ℕ) → k ≤ 11 → (k ≤ 10) ⊎ (k ≡ 11)
-ten-or-eleven k l = go (leb k 10) refl
+-- Every number is 0, that of a row, 11, or a service's own.
+by-number : {X : Type 0} (n : ℕ) → (n ≡ 0 → X) → (BeforeEleven n → X) → (n ≡ 11 → X) → (IsOwn n → X) → X
+by-number {X} n zero row eleven own = below n 12 (λ l. low l) (λ l. high (eqb n 17) refl l)
   where
-    go : (b : Bool) → leb k 10 ≡ b → (k ≤ 10) ⊎ (k ≡ 11)
-    go true e = inl (leb-true k 10 e)
-    go false e = inr (omega (arith, leb-false k 10 e))
+    low : n < 12 → X
+    low l = below n 1 (λ m. zero (omega arith)) (λ m. below n 11 (λ k. row (inl (omega arith))) (λ k. eleven (omega arith)))
 
-module _ {rules : Rules} {own : ℕ} {Fits : Tree → Type 0} {Holds : List ℕ → ℕ → Tree → Type 0} {text : Bytes} {B : List ℕ} where
+    high : (b : Bool) → eqb n 17 ≡ b → 12 ≤ n → X
+    high true e l = row (inr (eqb-true n 17 e))
+    high false e l = own (omega arith, λ f. clash (ap (λ i. eqb i 17) f) e)
+
+module _
+    {rules : Rules} {Treeless : Bytes → List Token → ℕ → Type 0} {Own : Tree → ℕ → ℕ → Type 0} {Holds : List ℕ → ℕ → Tree → Type 0} {text : Bytes}
+    {B : List ℕ} where
   -- Two calls that meet the same demands.
-  module _ {B′ B″ : List ℕ} {a b : Answer} (h : Right rules own Fits Holds text B B′ a) (g : Right rules own Fits Holds text B B″ b) where
-    -- Both refuse.
-    refusals : (a .number ≡ 0 → ⊥) → b .number ≡ a .number → b .offset ≡ a .offset → (a ≡ b) × (B′ ≡ B″)
-    refusals f n p =
-        let (u, c) = h .answers .unchanged f in
-        let (w, d) = g .answers .unchanged (λ z. f (sym n ∙ z)) in
-        (same-answer (sym n) (sym p) (c ∙ sym d), u ∙ sym w)
+  module _
+      {B′ B″ : List ℕ} {a b : Answer} (h : Right rules Treeless Own Holds text B B′ a) (g : Right rules Treeless Own Holds text B B″ b)
+    where
+      -- Both refuse.
+      refusals : (a .number ≡ 0 → ⊥) → b .number ≡ a .number → b .offset ≡ a .offset → (a ≡ b) × (B′ ≡ B″)
+      refusals f n p =
+          let (u, c) = h .answers .unchanged f in
+          let (w, d) = g .answers .unchanged (λ z. f (sym n ∙ z)) in
+          (same-answer (sym n) (sym p) (c ∙ sym d), u ∙ sym w)
 
-    -- Both read, and the buffers hold the same tree.
-    readings : Settles Holds → a .number ≡ 0 → (a ≡ b) × (B′ ≡ B″)
-    readings unique z =
-        let (t, tree, fits) = h .answers .success .0 z in
-        let y = g .answers .success .1 (t, tree, fits) in
-        let (c, u) = unique t B′ B″ (a .count) (b .count) (h .held z t tree) (g .held y t tree) in
-        (same-answer (z ∙ sym y) (h .answers .placeZero (inl z) ∙ sym (g .answers .placeZero (inl y))) c, u)
+      -- Both read, and the buffers hold the same tree.
+      readings : Settles Holds → a .number ≡ 0 → (a ≡ b) × (B′ ≡ B″)
+      readings unique z =
+          let (t, tree, none) = h .answers .success .0 z in
+          let y = g .answers .success .1 (t, tree, none) in
+          let (c, u) = unique t B′ B″ (a .count) (b .count) (h .held z t tree) (g .held y t tree) in
+          (same-answer (z ∙ sym y) (h .answers .placeZero z ∙ sym (g .answers .placeZero y)) c, u)
 
-    settled : 0 < own → Settles Holds → (a ≡ b) × (B′ ≡ B″)
-    settled positive unique = ⊎-elim (λ l. low (a .number) refl l) (⊎-elim (λ e. row (inr e)) owned) (h .answers .known)
-      where
-        row : BeforeEleven (a .number) → (a ≡ b) × (B′ ≡ B″)
-        row r =
-            let (n, p, s) = g .answers .faults (a .number) (a .offset) .1 (h .answers .faults (a .number) (a .offset) .0 (refl, refl, r)) in
-            refusals (λ z. ⊎-elim (λ l. omega arith) (λ l. omega arith) r) n p
+      pub settled : Settles Holds → (a ≡ b) × (B′ ≡ B″)
+      settled unique = by-number (a .number) (readings unique) row last owned
+        where
+          row : BeforeEleven (a .number) → (a ≡ b) × (B′ ≡ B″)
+          row r =
+              let (n, p, k) = g .answers .faults (a .number) (a .offset) .1 (h .answers .faults (a .number) (a .offset) .0 (refl, refl, r)) in
+              refusals (λ z. ⊎-elim (λ l. omega arith) (λ l. omega arith) r) n p
 
-        owned : a .number ≡ own → (a ≡ b) × (B′ ≡ B″)
-        owned e =
-            let y = g .answers .tooShort .1 (h .answers .tooShort .0 e) in
-            refusals (λ z. omega arith) (y ∙ sym e) (g .answers .placeZero (inr y) ∙ sym (h .answers .placeZero (inr e)))
+          last : a .number ≡ 11 → (a ≡ b) × (B′ ≡ B″)
+          last e =
+              let (n, p) = g .answers .eleven (a .offset) .1 (h .answers .eleven (a .offset) .0 (e, refl)) in
+              refusals (λ z. omega arith) (n ∙ sym e) p
 
-        last : a .number ≡ 11 → (a ≡ b) × (B′ ≡ B″)
-        last e =
-            let (n, p) = g .answers .eleven (a .offset) .1 (h .answers .eleven (a .offset) .0 (e, refl)) in
-            refusals (λ z. omega arith) (n ∙ sym e) p
-
-        low : (n : ℕ) → a .number ≡ n → a .number ≤ 11 → (a ≡ b) × (B′ ≡ B″)
-        low zero e l = readings unique e
-        low (suc n) e l = ⊎-elim (λ m. row (inl (omega arith))) last (ten-or-eleven (a .number) l)
+          owned : IsOwn (a .number) → (a ≡ b) × (B′ ≡ B″)
+          owned o =
+              let (n, p, k) = g .answers .own (a .number) (a .offset) .1 (h .answers .own (a .number) (a .offset) .0 (refl, refl, o)) in
+              refusals (λ z. omega arith) n p
 
 -- Under rules that let the same rows hold of the text the same is asked.
 module _ {R S : Rules} {text : Bytes} (alike : Alike R S text) where
-  answers-alike :
-      {own : ℕ} {Fits : Tree → Type 0} {B B′ : List ℕ} {a : Answer} → RightAnswerUnder R own Fits text B B′ a → RightAnswerUnder S own Fits text B B′ a
-  answers-alike h =
-      record {
-        known = h .known;
-        faults = λ n p. (λ z. alike n p .0 (h .faults n p .0 z), λ f. h .faults n p .1 (alike n p .1 f));
-        eleven =
-            λ p. (
-              λ z. let (x, ts, past, first) = h .eleven p .0 z in (x, ts, same-past alike past, first),
-              λ (x, ts, past, first). h .eleven p .1 (x, ts, same-past (alike-back alike) past, first),
-            );
-        success = (
-          λ z. let (t, tree, fits) = h .success .0 z in (t, same-readings alike tree, fits),
-          λ (t, tree, fits). h .success .1 (t, same-readings (alike-back alike) tree, fits),
-        );
-        tooShort = (
-          λ z. let (t, tree, fails) = h .tooShort .0 z in (t, same-readings alike tree, fails),
-          λ (t, tree, fails). h .tooShort .1 (t, same-readings (alike-back alike) tree, fails),
-        );
-        placeZero = h .placeZero;
-        unchanged = h .unchanged;
-      }
+  module _ {Treeless : Bytes → List Token → ℕ → Type 0} {Own : Tree → ℕ → ℕ → Type 0} {B B′ : List ℕ} {a : Answer} where
+    answers-alike : RightAnswerUnder R Treeless Own text B B′ a → RightAnswerUnder S Treeless Own text B B′ a
+    answers-alike h =
+        record {
+          faults = λ n p. (λ z. alike n p .0 (h .faults n p .0 z), λ f. h .faults n p .1 (alike n p .1 f));
+          eleven =
+              λ p. (
+                λ z. let (x, ts, past, first) = h .eleven p .0 z in (x, ts, same-past alike past, first),
+                λ (x, ts, past, first). h .eleven p .1 (x, ts, same-past (alike-back alike) past, first),
+              );
+          own =
+              λ n p. (
+                λ z. let (t, tree, o) = h .own n p .0 z in (t, same-readings alike tree, o),
+                λ (t, tree, o). h .own n p .1 (t, same-readings (alike-back alike) tree, o),
+              );
+          success = (
+            λ z. let (t, tree, none) = h .success .0 z in (t, same-readings alike tree, none),
+            λ (t, tree, none). h .success .1 (t, same-readings (alike-back alike) tree, none),
+          );
+          placeZero = h .placeZero;
+          unchanged = h .unchanged;
+        }
 
-  right-alike :
-      {own : ℕ} {Fits : Tree → Type 0} {Holds : List ℕ → ℕ → Tree → Type 0} {B B′ : List ℕ} {a : Answer}
-      → Right R own Fits Holds text B B′ a → Right S own Fits Holds text B B′ a
-  right-alike h = record { answers = answers-alike (h .answers); held = λ z t tree. h .held z t (same-readings (alike-back alike) tree) }
+    right-alike :
+        {Holds : List ℕ → ℕ → Tree → Type 0} → Right R Treeless Own Holds text B B′ a → Right S Treeless Own Holds text B B′ a
+    right-alike h = record { answers = answers-alike (h .answers); held = λ z t tree. h .held z t (same-readings (alike-back alike) tree) }
 
 -- Of the two services, first under the rules as they are, ..
 pub read-settled :
     (text : Bytes) (N N′ N″ : List ℕ) (a b : Answer) → Reads text N N′ a → RightReading current text N N″ b → (a ≡ b) × (N′ ≡ N″)
-read-settled text N N′ N″ a b h g = settled (ReadCalls.right text N N′ a h) g (omega arith) (table-settled text N)
+read-settled text N N′ N″ a b h g = settled (ReadCalls.right text N N′ a h) g (table-settled text N)
 
 pub canonicalize-settled :
     (text : Bytes) (B B′ B″ : List ℕ) (a b : Answer) → Canonicalizes text B B′ a → RightCanonical current text B B″ b → (a ≡ b) × (B′ ≡ B″)
-canonicalize-settled text B B′ B″ a b h g = settled (CanonicalCalls.right text B B′ a h) g (omega arith) (buffer-settled B)
+canonicalize-settled text B B′ B″ a b h g = settled (CanonicalCalls.right text B B′ a h) g (buffer-settled B)
 
 -- .. then under others that are alike for the text.
 module _ {R : Rules} {text : Bytes} (alike : Alike current R text) where
   read-alike : (N N′ : List ℕ) (a : Answer) → Reads text N N′ a → OnlyReading R text N N′ a
   read-alike N N′ a h =
       let other = right-alike alike (ReadCalls.right text N N′ a h) in
-      (other, λ N″ b g. settled other g (omega arith) (table-settled text N))
+      (other, λ N″ b g. settled other g (table-settled text N))
 
   canonicalize-alike : (B B′ : List ℕ) (a : Answer) → Canonicalizes text B B′ a → OnlyCanonical R text B B′ a
   canonicalize-alike B B′ a h =
       let other = right-alike alike (CanonicalCalls.right text B B′ a h) in
-      (other, λ B″ b g. settled other g (omega arith) (buffer-settled B))
+      (other, λ B″ b g. settled other g (buffer-settled B))
 
 -- Where no declaration names a reserved operator: as if none were reserved.
 unreserved-alike : (text : Bytes) → Unreserved text → Alike current withoutReserving text

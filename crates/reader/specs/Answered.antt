@@ -1,4 +1,4 @@
--- What the services answer and leave in the lent buffer, by document 01's answer and the definitions of the services.
+-- What the services hand out and leave in the lent buffer, by document 01's answer and the definitions of the services.
 use mathlib.Core.Path.{_≡_}
 use mathlib.Core.Bool.{true, false}
 use mathlib.Core.List.{List, []}
@@ -9,17 +9,16 @@ use Rattle.grammar.specs.Bytes.{Bytes}
 use Rattle.grammar.specs.Nodes.{wordsPerNode}
 use Rattle.grammar.specs.Decoding.{partOf}
 use Rattle.grammar.specs.Answer as G
+use Rattle.serving.specs.declared.Served.{Served}
 use Rattle.reader.specs.declared.Answer.{Answer}
-use Rattle.reader.specs.declared.Service.{Service}
-use Rattle.reader.specs.declared.Service.the-variants.{Nodes, Text, Place}
 
--- "The answer is (number, place, count)."
-unfoldable pub answerOf : Answer → G.Answer
-answerOf a = record { number = a .number; offset = a .offset; count = a .count }
+-- What is handed out of what a service answers.
+unfoldable pub answerFrom : Served → Answer
+answerFrom s = record { number = s .number; offset = s .offset; count = s .count }
 
--- The answer and the contents of the buffer afterwards.
+-- "The answer is (number, place, count)." With the contents of the lent buffer afterwards.
 unfoldable pub resultOf : Answer → List ℕ → G.Result
-resultOf a buffer = record { answer = answerOf a; buffer = buffer }
+resultOf a buffer = record { answer = record { number = a .number; offset = a .offset; count = a .count }; buffer = buffer }
 
 -- "Refused: count 0".
 abbrev pub refusedWith : ℕ → ℕ → Answer
@@ -37,21 +36,9 @@ Reads text table table′ a = resultOf a table′ ≡ G.read text table
 abbrev pub Canonicalizes : Bytes → List ℕ → List ℕ → Answer → Type 0
 Canonicalizes text buffer buffer′ a = resultOf a buffer′ ≡ G.canonicalize text buffer
 
--- Locating: the text, the answer.
+-- Locating: the text, the answer. No buffer is lent.
 abbrev pub Locates : Bytes → Answer → Type 0
-Locates text a = answerOf a ≡ G.locate text
-
--- The place of 11 for each service: that of the span without a tree, or that at which it is lost.
-unfoldable pub treelessPlace : Service → ℕ → ℕ → ℕ
-treelessPlace Nodes span lost = span
-treelessPlace Text span lost = span
-treelessPlace Place span lost = lost
-
--- One of the three, and the other's buffer is as it was.
-pub record Serves (service : Service) (text : Bytes) (table table′ buffer buffer′ : List ℕ) (a : Answer) : Type 0 where
-  pub reading : service ≡ Nodes → Reads text table table′ a × (buffer′ ≡ buffer)
-  pub writing : service ≡ Text → Canonicalizes text buffer buffer′ a × (table′ ≡ table)
-  pub locating : service ≡ Place → Locates text a
+Locates text a = resultOf a [] ≡ G.locate text
 
 -- The part of the text that node number `i` gives, as written: "Offset and length cover the bytes as written between the outer quotes, and these
 -- are handed out" (02, §5). "words past the last whole node are no part of it": a node that is not whole gives nothing.

@@ -1,7 +1,7 @@
 -- What the claims say of a call, in the terms of document 01.
 use mathlib.Core.Path.{_≡_}
 use mathlib.Core.Logic.{_↔_, _⊎_}
-use mathlib.Core.List.{List, _∷_}
+use mathlib.Core.List.{List, [], _∷_}
 use mathlib.Core.Option.{none, some}
 use Prim.Native.Nat.{ℕ, _*_, _≤_, _<_}
 use lib.ListN.{length, take, drop, getD}
@@ -11,7 +11,7 @@ use Rattle.grammar.specs.Declaration.{Declaration, startTable}
 use Rattle.grammar.specs.Spelling.{Spells, TokenAt}
 use Rattle.grammar.specs.Tree.{Tree, flat}
 use Rattle.grammar.specs.Nodes.{count, words, wordsPerNode}
-use Rattle.grammar.specs.Fault.{Rules, current, longestText, BeforeEleven, FaultUnder, Fault, PastUnder, Past}
+use Rattle.grammar.specs.Fault.{Rules, current, longestText, BeforeEleven, FaultUnder, PastUnder}
 use Rattle.grammar.specs.Decoding.{decodeTable, Ordered, Together}
 use Rattle.grammar.specs.NodePrecedence.{NodePrecedence}
 use Rattle.grammar.specs.Answer.{over}
@@ -19,50 +19,52 @@ use Rattle.grammar.specs.Claim.{nodeAtoms, nodeBlocks, FromLetToIn, FirstWithou
 use Rattle.reader.specs.declared.Answer.{Answer}
 use Rattle.reader.specs.Answered.{refusedWith, written, Reads, nodeWritten, Canonicalizes}
 
--- Demand 1, of a service whose own refusal has the number `own` and is given where a tree does not fit. `B` is the lent buffer before the
--- call, `B′` after it. The rules that documents 01 and 02 set (`Rules`) are a parameter.
+-- The numbers of a service's own refusals: neither 0 nor those of the checks, 1 to 11 and 17.
+abbrev pub IsOwn : ℕ → Type 0
+IsOwn n = (11 < n) × (n ≡ 17 → ⊥)
+
+-- Demand 1, of any service. `Treeless text ts p`: p is the place at which it gives 11. `Own t n p`: of what is read as t it gives its own refusal
+-- n at the place p. `B` is the lent buffer before the call, `B′` after it. The rules that documents 01 and 02 set (`Rules`) are a parameter.
 pub record RightAnswerUnder
-    (rules : Rules) (own : ℕ) (Fits : Tree → Type 0) (text : Bytes) (B B′ : List ℕ) (a : Answer)
+    (rules : Rules) (Treeless : Bytes → List Token → ℕ → Type 0) (Own : Tree → ℕ → ℕ → Type 0) (text : Bytes) (B B′ : List ℕ) (a : Answer)
     : Type 0 where
-  -- There is no other number.
-  pub known : (a .number ≤ 11) ⊎ ((a .number ≡ 17) ⊎ (a .number ≡ own))
   -- Rows 1 to 10 and 17, and only these, where documents 01 and 02 call for them.
   pub faults : (n p : ℕ) → ((a .number ≡ n) × (a .offset ≡ p) × BeforeEleven n) ↔ FaultUnder rules text n p
-  -- "11: span without a tree: 0, the `(`, or the `in`"
-  -- Of texts with at least one token (02, §7).
+  -- 11, of texts with at least one token (02, §7).
   pub eleven :
       (p : ℕ)
       → ((a .number ≡ 11) × (a .offset ≡ p))
-      ↔ ((x : Token) × (ts : List Token) × PastUnder rules text (x ∷ ts) × FirstWithout text (x ∷ ts) p)
-  -- Number 0 exactly where the text reads as something and it fits, the own number exactly where it does not fit; both have place 0.
-  pub success : (a .number ≡ 0) ↔ ((t : Tree) × ReadingUnder rules text t × Fits t)
-  pub tooShort : (a .number ≡ own) ↔ ((t : Tree) × ReadingUnder rules text t × (Fits t → ⊥))
-  pub placeZero : (a .number ≡ 0) ⊎ (a .number ≡ own) → a .offset ≡ 0
+      ↔ ((x : Token) × (ts : List Token) × PastUnder rules text (x ∷ ts) × Treeless text (x ∷ ts) p)
+  -- The rows of the service, of what the text reads as. There is no other number.
+  pub own : (n p : ℕ) → ((a .number ≡ n) × (a .offset ≡ p) × IsOwn n) ↔ ((t : Tree) × ReadingUnder rules text t × Own t n p)
+  -- Number 0, at place 0, exactly where the text reads as something and the service does not refuse it.
+  pub success : (a .number ≡ 0) ↔ ((t : Tree) × ReadingUnder rules text t × ((n p : ℕ) → Own t n p → ⊥))
+  pub placeZero : a .number ≡ 0 → a .offset ≡ 0
   -- "Refused: count 0, buffers unchanged."
   pub unchanged : (a .number ≡ 0 → ⊥) → (B′ ≡ B) × (a .count ≡ 0)
 
-abbrev pub RightAnswer : ℕ → (Tree → Type 0) → Bytes → List ℕ → List ℕ → Answer → Type 0
-RightAnswer = RightAnswerUnder current
+-- "11: span without a tree: 0, the `(`, or the `in`"
+abbrev pub RightAnswer : (Tree → ℕ → ℕ → Type 0) → Bytes → List ℕ → List ℕ → Answer → Type 0
+RightAnswer = RightAnswerUnder current FirstWithout
 
--- "12: reading: node table too short"
+-- A table that is long enough for a tree. "12: reading: node table too short: 0"
 abbrev pub TableFits : List ℕ → Tree → Type 0
 TableFits N t = wordsPerNode * count t ≤ length N
 
--- "13: tidying: tidy text over the buffer or 16,384"
-abbrev pub BufferFits : List ℕ → Tree → Type 0
-BufferFits B t = (length (canonicalBytes t) ≤ length B) × (length (canonicalBytes t) ≤ longestText)
+abbrev pub TableTooShort : List ℕ → Tree → ℕ → ℕ → Type 0
+TableTooShort N t n p = (n ≡ 12) × (p ≡ 0) × (length N < wordsPerNode * count t)
 
--- What a call answers that locates a text: 0 where it reads as something; a refusal other than 11 with its own place; and 11 with the place at
--- which the first span without a tree is lost. Nothing is written.
-pub record RightPlace (text : Bytes) (a : Answer) : Type 0 where
-  pub known : (a .number ≤ 11) ⊎ (a .number ≡ 17)
-  pub faults : (n p : ℕ) → ((a .number ≡ n) × (a .offset ≡ p) × BeforeEleven n) ↔ Fault text n p
-  pub eleven :
-      (p : ℕ)
-      → ((a .number ≡ 11) × (a .offset ≡ p)) ↔ ((x : Token) × (ts : List Token) × Past text (x ∷ ts) × LostAt text (x ∷ ts) p)
-  pub success : (a .number ≡ 0) ↔ ((t : Tree) × ReadingOf text t)
-  pub placeZero : a .number ≡ 0 → a .offset ≡ 0
-  pub uncounted : a .count ≡ 0
+-- "13: tidying: tidy text over the buffer or 16,384: 0"
+abbrev pub BufferTooShort : List ℕ → Tree → ℕ → ℕ → Type 0
+BufferTooShort B t n p =
+    let c = length (canonicalBytes t) in (n ≡ 13) × (p ≡ 0) × ((length B < c) ⊎ (longestText < c))
+
+-- Locating refuses nothing that is read, counts nothing and writes nothing.
+abbrev pub NoneOwn : Tree → ℕ → ℕ → Type 0
+NoneOwn t n p = ⊥
+
+abbrev pub NothingHeld : List ℕ → ℕ → Tree → Type 0
+NothingHeld C c t = (c ≡ 0) × (C ≡ [])
 
 -- Demand 2: what the node table holds of the tree `t` where `c` nodes were counted.
 pub record TableHolds (text : Bytes) (N N′ : List ℕ) (c : ℕ) (t : Tree) : Type 0 where
@@ -110,17 +112,21 @@ pub record BufferHolds (B B′ : List ℕ) (c : ℕ) (t : Tree) : Type 0 where
 
 -- All that is asked of a call: the answer, and that the buffer holds what a text is read as.
 pub record Right
-    (rules : Rules) (own : ℕ) (Fits : Tree → Type 0) (Holds : List ℕ → ℕ → Tree → Type 0) (text : Bytes) (B B′ : List ℕ) (a : Answer)
+    (rules : Rules) (Treeless : Bytes → List Token → ℕ → Type 0) (Own : Tree → ℕ → ℕ → Type 0) (Holds : List ℕ → ℕ → Tree → Type 0)
+    (text : Bytes) (B B′ : List ℕ) (a : Answer)
     : Type 0 where
-  pub answers : RightAnswerUnder rules own Fits text B B′ a
+  pub answers : RightAnswerUnder rules Treeless Own text B B′ a
   pub held : a .number ≡ 0 → (t : Tree) → ReadingUnder rules text t → Holds B′ (a .count) t
 
--- Of a call of `read`, and of one of `canonicalize`.
+-- Of a call of `read`, of one of `canonicalize`, and of one of `locate`, which gives 11 where the text is lost.
 abbrev pub RightReading : Rules → Bytes → List ℕ → List ℕ → Answer → Type 0
-RightReading rules text N N′ a = Right rules 12 (TableFits N) (TableHolds text N) text N N′ a
+RightReading rules text N N′ a = Right rules FirstWithout (TableTooShort N) (TableHolds text N) text N N′ a
 
 abbrev pub RightCanonical : Rules → Bytes → List ℕ → List ℕ → Answer → Type 0
-RightCanonical rules text B B′ a = Right rules 13 (BufferFits B) (BufferHolds B) text B B′ a
+RightCanonical rules text B B′ a = Right rules FirstWithout (BufferTooShort B) (BufferHolds B) text B B′ a
+
+abbrev pub RightPlace : Bytes → Answer → Type 0
+RightPlace text a = Right current LostAt NoneOwn NothingHeld text [] [] a
 
 -- A call is what is asked for under those rules, and nothing else is.
 abbrev pub OnlyReading : Rules → Bytes → List ℕ → List ℕ → Answer → Type 0

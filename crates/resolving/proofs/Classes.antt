@@ -2,11 +2,13 @@
 -- and where its bytes stand.
 use mathlib.Core.Path.{_≡_, refl, sym, ap, subst, _∙_}
 use mathlib.Core.Logic.{_⊎_, inl, inr}
-use mathlib.Core.List.{List}
+use mathlib.Core.List.{List, [], _∷_}
 use Prim.Native.Nat.{ℕ, _+_, _-_, _≤_, _<_}
 use native.Mathlib.Omega.{arith}
 use lib.ListN.{length, take, drop}
 use borrow.Author.Tests.{eq-eqb, ne-eqb}
+use types.Run.{OneOf, miss}
+use denote.Enum.Declared.{tagOf}
 use Rattle.grammar.specs.Bytes.{Bytes}
 use Rattle.grammar.specs.Operator.{Table}
 use Rattle.grammar.proofs.Doubling.{IsDoubled}
@@ -14,14 +16,15 @@ use Rattle.grammar.proofs.Logic.{below}
 use Rattle.rows.specs.Fields.{kind, start, size, closer, Within}
 use Rattle.rows.specs.Tokens.{writtenOf, Paired, done, single, bracket, block}
 use Rattle.rows.proofs.Fields.{within}
+use Rattle.rows.proofs.Noting.{WordsAt, number-noted, number-item}
+use Rattle.rows.proofs.class.Class.{the-type}
 use Rattle.rows.proofs.Stored.{part-ends, stored-sized, stored-doubled, stored-written, part-written}
 use Rattle.operators.specs.Entries.{codedFind, IsName}
 use Rattle.operators.specs.declared.table.Found.{Found}
 use Rattle.operators.specs.declared.table.Found.the-variants.{At, Nothing}
-use Rattle.operators.specs.declared.table.Table as E
 use Rattle.rows.specs.declared.class.Class.{Class}
 use Rattle.rows.specs.declared.class.Class.the-variants.{Name, Number, Operator, Bracket, Block}
-use Rattle.resolving.specs.Resolving.{endOf, foundClass, codedClass, Ranged}
+use Rattle.resolving.specs.Resolving.{endOf, foundClass, codedClass, Ranged, AtomNoted, Notes}
 
 module _ (text : Bytes) (K : List ℕ) (i : ℕ) (W : List ℕ) (count : ℕ) where
   abbrev class : Class
@@ -128,3 +131,22 @@ module _ {text : Bytes} {K R : List ℕ} {i to : ℕ} (g : Ranged text K R i to)
 pub name-kind : {X : Type 0} {k : ℕ} → ((k ≡ 1) × X) ⊎ (k ≡ 3) → k ≤ 3
 name-kind (inl h) = omega (arith, h .0)
 name-kind (inr h) = omega arith
+
+-- By the number of a class, in the order of `Class`: a number, bracket pair or block is noted without roles; a name, number or operator is
+-- an atom.
+module _ (text : Bytes) (K : List ℕ) (T : Table) (R : List ℕ) (i : ℕ) (R′ : List ℕ) where
+  pub no-roles-noted :
+      (W : List ℕ) (count : ℕ) (x : Class) → OneOf (1 ∷ 3 ∷ 4 ∷ []) (tagOf the-type x) → Says text K i W count x → WordsAt R i 0 0 0 0 R′
+      → Notes text K T R i R′ x
+  no-roles-noted W count (Name s n) k h w = absurd (miss (1 ∷ 3 ∷ 4 ∷ []) 0 tt k)
+  no-roles-noted W count (Operator e) k h w = absurd (miss (1 ∷ 3 ∷ 4 ∷ []) 2 tt k)
+  no-roles-noted W count Number k h w = number-item text K T R i R′ h (number-noted R i R′ T _ w)
+  no-roles-noted W count (Bracket c) k h w = (h .0, h .1, w .arrives, w .kept)
+  no-roles-noted W count (Block e) k h w = (h .0, h .1, w .arrives, w .kept)
+
+  pub atom-noted : (x : Class) → OneOf (0 ∷ 1 ∷ 2 ∷ []) (tagOf the-type x) → Notes text K T R i R′ x → AtomNoted text K T R i R′
+  atom-noted (Name s n) k h = h
+  atom-noted Number k h = h
+  atom-noted (Operator e) k h = h
+  atom-noted (Bracket c) k h = absurd (miss (0 ∷ 1 ∷ 2 ∷ []) 3 tt k)
+  atom-noted (Block e) k h = absurd (miss (0 ∷ 1 ∷ 2 ∷ []) 4 tt k)

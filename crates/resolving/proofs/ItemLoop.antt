@@ -18,15 +18,15 @@ use Rattle.grammar.specs.Blocks.{bodyTable, checkItem, checkItems, checkBlocks}
 use Rattle.grammar.proofs.Logic.{impossible}
 use Rattle.rows.specs.Fields.{field, kind, closer, arrival}
 use Rattle.rows.specs.Codes.{Bounded}
-use Rattle.rows.specs.Tokens.{atomIn, range, IsAtomKind, Paired}
-use Rattle.rows.specs.Agreeing.{KeptOutside, NotedAt, Agrees, ends, atoms, brackets, blocks}
+use Rattle.rows.specs.Tokens.{atomIn, range, Paired}
+use Rattle.rows.specs.Agreeing.{KeptOutside, Agrees, ends, atoms, brackets, blocks}
 use Rattle.rows.proofs.Ranges.{length-range}
 use Rattle.rows.proofs.PairedItems.{items-done, items-single, items-bracket, items-block, behind-pair, behind-scope}
 use Rattle.rows.proofs.PairedCases.{BracketAt, BlockAt, paired-ordered, paired-single, paired-bracket, paired-block}
 use Rattle.resolving.specs.declared.Resolved.{Resolved}
 use Rattle.resolving.specs.declared.Resolved.the-variants.{Passed, Refused}
-use Rattle.resolving.specs.Resolving as R
-use Rattle.resolving.specs.Resolving.{Ranged, endOf, Resolves, Resolving, BlockResolves, BlockResolving}
+use Rattle.resolving.specs.Resolving.{Ranged, endOf, AtomNoted, Resolves, Resolving}
+use Rattle.resolving.proofs.Bodies.{BlockResolves, BlockResolving}
 use Rattle.rows.proofs.Noting.{kept-none, kept-join, noted-kept}
 
 -- A row with the same words from token `from` to token `to`.
@@ -87,11 +87,6 @@ ranged-part g R′ e a b l p =
       roles = omega (arith, g .roles);
       paired = p;
     }
-
--- A block of a range, as its contract has it.
-pub block-parts : {K : List ℕ} {i c e to : ℕ} → BlockAt K i c e to → R.BlockAt K i c e
-block-parts b =
-    record { isLet = b .isLet; isIn = b .isIn; isEnd = b .isEnd; before = b .before; between = b .between; quiet = b .quiet }
 
 module _ (text : Bytes) (K : List ℕ) (T : Table) (from to : ℕ) where
   abbrev checks : ℕ → ℕ → Outcome (Unit {0})
@@ -168,7 +163,7 @@ module _ {text : Bytes} {K : List ℕ} {T : Table} {from to : ℕ} {R₀ : List 
 
   -- An atom, with what was noted.
   pub atom-over :
-      (R′ : List ℕ) → i < to → IsAtomKind (kind K i) × NotedAt T R i (atomIn text K i) R′ → Progress text K T from to R₀ (i + 1) R′
+      (R′ : List ℕ) → i < to → AtomNoted text K T R i R′ → Progress text K T from to R₀ (i + 1) R′
   unfolding itemTokens checkItem
   atom-over R′ l (k, n) =
       rw (add-one i)

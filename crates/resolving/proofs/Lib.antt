@@ -1,6 +1,5 @@
 pub mod Noting
 pub mod Classes
+pub mod Bodies
 pub mod ItemLoop
 pub mod WithoutBlocks
-pub mod Declared
-pub mod DeclarationLoop

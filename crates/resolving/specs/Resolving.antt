@@ -1,21 +1,20 @@
 -- Refusals 8 to 10 and 17 over all blocks, and the roles in force of each item.
 use mathlib.Core.Path.{_≡_}
-use mathlib.Core.Bool.{Bool, true, false}
+use mathlib.Core.Bool.{true, false}
 use mathlib.Core.List.{List}
 use Prim.Native.Nat.{ℕ, suc, _-_, _≤_, _<_}
-use lib.Dec.{eqb, leb}
+use lib.Dec.{eqb}
 use lib.ListN.{length}
 use Rattle.grammar.specs.Fault.{longestText}
 use Rattle.grammar.specs.Bytes.{Bytes}
 use Rattle.grammar.specs.Token.{symbol}
-use Rattle.grammar.specs.Outcome.{Outcome, refused, passed, andThen}
+use Rattle.grammar.specs.Outcome.{Outcome, refused, passed}
 use Rattle.grammar.specs.Scan.{Placed}
 use Rattle.grammar.specs.Operator.{Table, permitted}
-use Rattle.grammar.specs.Declaration.{mostOperators, enter, declarations, allTokens}
-use Rattle.grammar.specs.Blocks.{bodyTable, checkBlocks}
+use Rattle.grammar.specs.Declaration.{enter, declarations}
+use Rattle.grammar.specs.Blocks.{checkBlocks}
 use Rattle.rows.specs.Fields.{kind, start, size, closer, arrival, Holds}
-use Rattle.rows.specs.Codes.{Bounded}
-use Rattle.rows.specs.Tokens.{writtenOf, atomIn, range, IsAtomKind, IsQuietKind, Paired, Stored}
+use Rattle.rows.specs.Tokens.{writtenOf, atomIn, range, IsAtomKind, Paired, Stored}
 use Rattle.rows.specs.Agreeing.{KeptOutside, NotedAt, Agrees}
 use Rattle.operators.specs.Entries.{codedFind, tableBy, tableOf, Sound}
 use Rattle.operators.specs.declared.table.Found.{Found}
@@ -23,8 +22,8 @@ use Rattle.operators.specs.declared.table.Found.the-variants.{At, Nothing}
 use Rattle.operators.specs.declared.table.Table as E
 use Rattle.rows.specs.declared.class.Class.{Class}
 use Rattle.rows.specs.declared.class.Class.the-variants.{Name, Number, Operator, Bracket, Block}
-use Rattle.resolving.specs.declared.Item.{Item}
-use Rattle.resolving.specs.declared.Item.the-variants.{Atom as OneAtom, Bracket as Bracketed, Block as Blocked}
+use Rattle.resolving.specs.declared.Entered.{Entered}
+use Rattle.resolving.specs.declared.Entered.the-variants as In
 use Rattle.resolving.specs.declared.Resolved.{Resolved}
 use Rattle.resolving.specs.declared.Resolved.the-variants.{Passed, Refused}
 
@@ -83,46 +82,29 @@ OperatorNoted W k R i R′ =
 abbrev pub Unfound : Bytes → E.Table → Bytes → Type 0
 Unfound text t name = codedFind text (t .words) name 0 (t .count) ≡ Nothing
 
--- What an item is by its first token, and what is noted of it: a bracket pair or block is no operator.
-abbrev pub Notes : Bytes → List ℕ → Table → List ℕ → ℕ → List ℕ → Item → Type 0
-Notes text K T R i R′ OneAtom = IsAtomKind (kind K i) × NotedAt T R i (atomIn text K i) R′
-Notes text K T R i R′ (Bracketed c) = (kind K i ≡ 4) × (closer K i ≡ c) × (arrival R′ i ≡ 0) × KeptOutside R i (suc i) R′
-Notes text K T R i R′ (Blocked e) = (kind K i ≡ 7) × (endOf K i ≡ e) × (arrival R′ i ≡ 0) × KeptOutside R i (suc i) R′
+-- What is noted of an item by the class of its first token: of an atom its roles; a bracket pair or block is no operator.
+abbrev pub AtomNoted : Bytes → List ℕ → Table → List ℕ → ℕ → List ℕ → Type 0
+AtomNoted text K T R i R′ = IsAtomKind (kind K i) × NotedAt T R i (atomIn text K i) R′
+
+abbrev pub Notes : Bytes → List ℕ → Table → List ℕ → ℕ → List ℕ → Class → Type 0
+Notes text K T R i R′ (Name s n) = AtomNoted text K T R i R′
+Notes text K T R i R′ Number = AtomNoted text K T R i R′
+Notes text K T R i R′ (Operator k) = AtomNoted text K T R i R′
+Notes text K T R i R′ (Bracket c) = (kind K i ≡ 4) × (closer K i ≡ c) × (arrival R′ i ≡ 0) × KeptOutside R i (suc i) R′
+Notes text K T R i R′ (Block e) = (kind K i ≡ 7) × (endOf K i ≡ e) × (arrival R′ i ≡ 0) × KeptOutside R i (suc i) R′
 
 -- That, of the tokens from `from` to `to`, whatever the fuel that is more than they are.
 pub record Resolving (text : Bytes) (K : List ℕ) (T : Table) (from to : ℕ) (R R′ : List ℕ) (r : Resolved) : Type 0 where
   pub answer : (k : ℕ) → to - from < k → Resolves text K R′ T from to (checkBlocks k T from (range text K from to)) r
   pub kept : KeptOutside R from to R′
 
--- Whether a name that was looked for is new, and whether there is no room for it.
-unfoldable pub isNew : Found → Bool
-isNew (At i) = false
-isNew Nothing = true
+-- What the declarations of a block answer under the operators `T`, with its `let` at token number `i` and its `in` at `c`: checks 8, 17, 9
+-- and 10.
+abbrev pub blockEntered : Bytes → List ℕ → Table → ℕ → ℕ → Outcome Table
+blockEntered text K T i c = let ds = range text K (suc i) c in enter (length ds) T (suc i) ds
 
-unfoldable pub isFull : ℕ → Found → Bool
-isFull count (At i) = false
-isFull count Nothing = leb mostOperators count
-
--- A block with `let` at `i`, `in` at `c` and `end` at `e`.
-pub record BlockAt (K : List ℕ) (i c e : ℕ) : Type 0 where
-  pub isLet : kind K i ≡ 7
-  pub isIn : kind K c ≡ 8
-  pub isEnd : kind K e ≡ 9
-  pub before : i < c
-  pub between : c < e
-  pub quiet : (j : ℕ) → i < j → j < c → IsQuietKind (kind K j)
-
--- What a block's declarations and its body answer.
-abbrev pub BlockResolves : Bytes → List ℕ → List ℕ → Table → ℕ → ℕ → ℕ → Outcome (Unit {0}) → Resolved → Type 0
-BlockResolves text K R T i c e (refused n p) r = r ≡ Refused n p
-BlockResolves text K R T i c e (passed u) r =
-    let ds = range text K (suc i) c in
-    (r ≡ Passed) × (allTokens (declarations ds) ≡ ds) × Bounded (bodyTable T ds) × Agrees text K R (bodyTable T ds) (suc c) e
-
-pub record BlockResolving (text : Bytes) (K : List ℕ) (T : Table) (i c e : ℕ) (R R′ : List ℕ) (r : Resolved) : Type 0 where
-  pub answer :
-      (k : ℕ) → e - suc c < k
-      → BlockResolves text K R′ T i c e
-      (andThen (enter (length (range text K (suc i) c)) T (suc i) (range text K (suc i) c)) (λ U. checkBlocks k U (suc c) (range text K (suc c) e)))
-      r
-  pub kept : KeptOutside R (suc c) e R′
+-- What the code answers of them: 01's number and the token of a refusal; or how many operators there are, and words and hints have these.
+abbrev pub Enters : Bytes → Outcome Table → List ℕ → List ℕ → Entered → Type 0
+Enters text (refused n p) W H r = r ≡ In.Refused n p
+Enters text (passed U) W H r =
+    (count : ℕ) × (r ≡ In.Passed count) × PermittedTable text (tableBy W H count) × (tableOf text (tableBy W H count) ≡ U)

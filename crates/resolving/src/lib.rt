@@ -1,8 +1,6 @@
 // The roles in force of each token: document 01's "A word or sign without a role in force is a name", and refusals 8 to 10 and 17 over all
 // blocks.
-use declaration_part::parse;
-use declaration_part::parse::Parsed;
-use declaration_part::walk;
+use declaring::Declared;
 use operators::table;
 use operators::table::Found;
 use operators::table::Quick;
@@ -13,19 +11,17 @@ use rows::role;
 use rows::roles as row;
 use rows::tokens;
 use starting_operators::notes;
-use starting_operators::reserved;
 ghost use mathlib.Core.Path.{_≡_};
 ghost use mathlib.Core.Bool.{false};
 ghost use mathlib.Core.List.{List};
-ghost use Prim.Native.Nat.{ℕ, suc, _≤_, _<_};
+ghost use Prim.Native.Nat.{ℕ, _<_};
 ghost use Rattle.grammar.specs.Declaration.{startTable};
-ghost use Rattle.rows.specs.Fields.{closer, Within};
+ghost use Rattle.rows.specs.Fields.{Within};
 ghost use Rattle.rows.specs.Tokens.{Unblocked};
 ghost use Rattle.rows.specs.Agreeing.{NameNoted};
 ghost use Rattle.operators.specs.Entries.{tableBy, tableOf, Sound, IsName};
-ghost use Rattle.declaration_part.specs.Parsing.{nextPlace};
-ghost use Rattle.resolving.specs.Resolving.{codedClass, Ranged, PermittedTable, OperatorNoted, Unfound, Notes, Resolving};
-ghost use Rattle.resolving.specs.Resolving.{endOf, isNew, isFull, BlockAt, BlockResolving};
+ghost use Rattle.declaring.specs.Declaring.{PartAt};
+ghost use Rattle.resolving.specs.Resolving.{blockEntered, Enters, codedClass, Ranged, PermittedTable, OperatorNoted, Unfound, Notes, Resolving};
 
 // The class of the first token of an item, under the operators of a table.
 pub fn classify<'a>(
@@ -132,14 +128,7 @@ fn store_name<'a>(
     row::set(roles, i, 0, 0, 0, 0);
 }
 
-// What an item is: an atom, or a bracket pair or a block with its closing token.
-pub enum Item {
-    Atom,
-    Bracket { closer: usize },
-    Block { closer: usize },
-}
-
-// The words of the first token of an item, under the operators of a table, and what the item is.
+// The words of the first token of an item, under the operators of a table, and its class.
 fn note<'a>(
     text: &[u8],
     tokens: &[u16],
@@ -148,34 +137,70 @@ fn note<'a>(
     hints: &'a [u8; 128],
     count: usize,
     roles: &mut [u16],
-) -> Item
+) -> Class
     requires { ⌜ ((to : ℕ) × Ranged (now text) (now tokens) (now roles) i to × (i < to))
         × Sound (now text) (tableBy (now words) (now hints) count) ⌝ }
-    ensures { λ r. ⌜ Notes (now (text .entry)) (now (tokens .entry))
+    ensures { λ r. ⌜ (r ≡ codedClass (now (text .entry)) (now (tokens .entry)) i (now (words .entry)) count)
+        × Notes (now (text .entry)) (now (tokens .entry))
         (tableOf (now (text .entry)) (tableBy (now (words .entry)) (now (hints .entry)) count)) (now (roles .entry)) i (now (roles .exit)) r ⌝ }
 {
-    match classify(text, tokens, i, words, hints, count) {
+    let class = classify(text, tokens, i, words, hints, count);
+    match class {
         Class::Operator { entry } => {
             store_operator(roles, i, words, entry);
-            Item::Atom
         }
         Class::Name { start, size } => {
             let e = start + size;
             let quoted = tokens::kind(tokens, i) == kinds::QUOTED;
             store_name(text, &text[start..e], words, hints, count, quoted, i, roles);
-            Item::Atom
         }
-        Class::Number => {
+        _ => {
             row::set(roles, i, 0, 0, 0, 0);
-            Item::Atom
         }
-        Class::Bracket { closer } => {
-            row::set(roles, i, 0, 0, 0, 0);
-            Item::Bracket { closer }
-        }
-        Class::Block { closer } => {
-            row::set(roles, i, 0, 0, 0, 0);
-            Item::Block { closer }
+    }
+    class
+}
+
+// Refusal 10.
+pub const NOT_PERMITTED: u8 = 10;
+
+// How many operators are in force in a block's body; or a refusal and its token.
+pub enum Entered {
+    Passed { count: usize },
+    Refused { number: u8, at: usize },
+}
+
+// The declarations between the `let` at token `from` and the `in` at token `to` change the operators of a table, and check 10 is asked of what
+// they leave.
+fn enter_block(
+    text: &[u8],
+    tokens: &[u16],
+    from: usize,
+    to: usize,
+    words: &mut [u16; 320],
+    hints: &mut [u8; 128],
+    count: usize,
+) -> Entered
+    requires { ⌜ PartAt (now text) (now tokens) from to × PermittedTable (now text) (tableBy (now words) (now hints) count) ⌝ }
+    ensures { λ r. ⌜ Enters (now (text .entry))
+        (blockEntered (now (text .entry)) (now (tokens .entry)) (tableOf (now (text .entry)) (tableBy (now (words .entry)) (now (hints .entry)) count)) from to)
+        (now (words .exit)) (now (hints .exit)) r ⌝ }
+{
+    match declaring::declare_all(text, tokens, from, to, words, hints, count) {
+        Declared::Refused { number, at } => Entered::Refused { number, at },
+        Declared::Passed {
+            count: inner_count,
+            replaced,
+        } => {
+            if replaced {
+                if !table::is_permitted(words, inner_count) {
+                    return Entered::Refused {
+                        number: NOT_PERMITTED,
+                        at: to,
+                    };
+                }
+            }
+            Entered::Passed { count: inner_count }
         }
     }
 }
@@ -205,10 +230,7 @@ pub fn resolve<'a>(
     let mut i = from;
     while i < to {
         match note(text, tokens, i, words, hints, count, roles) {
-            Item::Atom => {
-                i += 1;
-            }
-            Item::Bracket { closer } => {
+            Class::Bracket { closer } => {
                 match resolve(text, tokens, i + 1, closer, words, hints, count, roles) {
                     Resolved::Passed => {}
                     Resolved::Refused { number, at } => {
@@ -217,151 +239,48 @@ pub fn resolve<'a>(
                 }
                 i = closer + 1;
             }
-            Item::Block { closer } => {
-                match resolve_block(text, tokens, i, words, hints, count, roles) {
-                    Resolved::Passed => {}
-                    Resolved::Refused { number, at } => {
+            Class::Block { closer } => {
+                let body = tokens::closer(tokens, i);
+                let mut inner_words = *words;
+                let mut inner_hints = *hints;
+                match enter_block(
+                    text,
+                    tokens,
+                    i,
+                    body,
+                    &mut inner_words,
+                    &mut inner_hints,
+                    count,
+                ) {
+                    Entered::Refused { number, at } => {
                         return Resolved::Refused { number, at };
+                    }
+                    Entered::Passed { count: inner_count } => {
+                        match resolve(
+                            text,
+                            tokens,
+                            body + 1,
+                            closer,
+                            &inner_words,
+                            &inner_hints,
+                            inner_count,
+                            roles,
+                        ) {
+                            Resolved::Passed => {}
+                            Resolved::Refused { number, at } => {
+                                return Resolved::Refused { number, at };
+                            }
+                        }
                     }
                 }
                 i = closer + 1;
             }
+            _ => {
+                i += 1;
+            }
         }
     }
     Resolved::Passed
-}
-
-// Refusals 8, 17, 9 and 10, in their order.
-pub const MALFORMED: u8 = 8;
-
-pub const RESERVED_OPERATOR: u8 = 17;
-
-pub const TOO_MANY_OPERATORS: u8 = 9;
-
-pub const NOT_PERMITTED: u8 = 10;
-
-// Whether there is no room for a name that was looked for.
-fn is_full(count: usize, found: Found) -> bool
-    ensures { λ r. ⌜ r ≡ isFull count found ⌝ }
-{
-    match found {
-        Found::At { entry: _ } => false,
-        Found::Nothing => table::MAX_OPERATORS <= count,
-    }
-}
-
-// Whether it is not listed.
-fn is_new(found: Found) -> bool
-    ensures { λ r. ⌜ r ≡ isNew found ⌝ }
-{
-    match found {
-        Found::At { entry: _ } => false,
-        Found::Nothing => true,
-    }
-}
-
-// Where the token behind the `;` begins that stands behind `n` bytes at `at`.
-fn behind_semicolon(text: &[u8], at: usize, n: usize) -> usize
-    requires { ⌜ (at ≤ 65535) × (n ≤ 65535) × (nextPlace (now text) at n ≤ 65535) ⌝ }
-    ensures { λ r. ⌜ r ≡ nextPlace (now (text .entry)) (nextPlace (now (text .entry)) at n) 1 ⌝ }
-{
-    walk::next_at(text, walk::next_at(text, at, n), 1)
-}
-
-// The block whose `let` is token number `from`, under the operators of a table: its declarations, where it has any, change a copy of it.
-fn resolve_block<'a>(
-    text: &[u8],
-    tokens: &[u16],
-    from: usize,
-    words: &'a [u16; 320],
-    hints: &'a [u8; 128],
-    count: usize,
-    roles: &mut [u16],
-) -> Resolved
-    requires { ⌜ BlockAt (now tokens) from (closer (now tokens) from) (endOf (now tokens) from)
-        × Ranged (now text) (now tokens) (now roles) (suc (closer (now tokens) from)) (endOf (now tokens) from)
-        × PermittedTable (now text) (tableBy (now words) (now hints) count) ⌝ }
-    ensures { λ r. ⌜ BlockResolving (now (text .entry)) (now (tokens .entry))
-        (tableOf (now (text .entry)) (tableBy (now (words .entry)) (now (hints .entry)) count)) from (closer (now (tokens .entry)) from)
-        (endOf (now (tokens .entry)) from) (now (roles .entry)) (now (roles .exit)) r ⌝ }
-{
-    let body = tokens::closer(tokens, from);
-    let end = tokens::closer(tokens, body);
-    if body == from + 1 {
-        return resolve(text, tokens, body + 1, end, words, hints, count, roles);
-    }
-    let mut t = Table {
-        words: *words,
-        hints: *hints,
-        count,
-    };
-    let mut permitted = true;
-    let mut place = walk::next_at(text, tokens::start(tokens, from), 3);
-    let mut at = from + 1;
-    while at < body {
-        match parse::declaration_at(text, tokens, at, body, place) {
-            Parsed::Unfit { at } => {
-                return Resolved::Refused {
-                    number: MALFORMED,
-                    at,
-                };
-            }
-            Parsed::Role {
-                fixity,
-                role,
-                place: operator,
-            } => {
-                let m = at + 3;
-                let size = tokens::size(tokens, m);
-                let name = walk::token_at(text, operator, size);
-                if reserved::is_reserved(name) {
-                    return Resolved::Refused {
-                        number: RESERVED_OPERATOR,
-                        at: m,
-                    };
-                }
-                let count = t.count;
-                let found = table::find(text, &t.words, &t.hints, count, name);
-                if is_full(count, found) {
-                    return Resolved::Refused {
-                        number: TOO_MANY_OPERATORS,
-                        at: m,
-                    };
-                }
-                if !is_new(found) {
-                    permitted = false;
-                }
-                t = t.declare(found, operator, size, table::hash(name), fixity, role);
-                place = behind_semicolon(text, operator, size);
-                at += 5;
-            }
-            Parsed::Clears { place: operator } => {
-                let m = at + 1;
-                let size = tokens::size(tokens, m);
-                let cleared = walk::token_at(text, operator, size);
-                if reserved::is_reserved(cleared) {
-                    return Resolved::Refused {
-                        number: RESERVED_OPERATOR,
-                        at: m,
-                    };
-                }
-                let count = t.count;
-                t = t.clear(table::find(text, &t.words, &t.hints, count, cleared));
-                place = behind_semicolon(text, operator, size);
-                at += 3;
-            }
-        }
-    }
-    let n = t.count;
-    if !permitted {
-        if !table::is_permitted(&t.words, n) {
-            return Resolved::Refused {
-                number: NOT_PERMITTED,
-                at: body,
-            };
-        }
-    }
-    resolve(text, tokens, body + 1, end, &t.words, &t.hints, n, roles)
 }
 
 // The roles of all items of `count` tokens, under the starting operators. Where there are no blocks, nothing else is ever in force.

@@ -2,13 +2,14 @@
 -- Words of different entries, and different words of one, have different places in the list.
 use mathlib.Core.Path.{_≡_}
 use mathlib.Core.List.{List}
-use Prim.Native.Nat.{ℕ, _+_, _*_, _<_}
+use Prim.Native.Nat.{ℕ, _+_, _-_, _*_, _<_}
 use native.Mathlib.Nat.{mul-le-mul-right}
 use native.Mathlib.Omega.{arith}
 use lib.ListN.{length, length-set}
 use lib.Seq.{getD-set-same, getD-set-other}
+use borrow.Author.Tests.{eq-eqb, ne-eqb}
 use Rattle.grammar.proofs.Logic.{below}
-use Rattle.rows.specs.Fields.{field, store, Within, Holds}
+use Rattle.rows.specs.Fields.{field, store, Within, Holds, kind, start, firstByte}
 
 pub store-same : (w k : ℕ) (R : List ℕ) (i v : ℕ) → k < w → Within w R i → field w k (store w k R i v) i ≡ v
 store-same w k R i v h b = getD-set-same R (i * w + k) v 0 (omega arith)
@@ -42,3 +43,13 @@ store-length w k R i v = length-set R (i * w + k) v
 -- Entries below the number of a row's entries stand in it.
 pub within : (w n : ℕ) (R : List ℕ) (i : ℕ) → Holds w R n → i < n → Within w R i
 within w n R i h l = omega (arith, mul-le-mul-right w l)
+
+-- The first byte of a token, by its kind.
+module _ (K : List ℕ) (i : ℕ) where
+  pub first-quoted : kind K i ≡ 3 → firstByte K i ≡ start K i - 1
+  unfolding firstByte
+  first-quoted e = rw (eq-eqb (kind K i) 3 e, firstByte)
+
+  pub first-other : (kind K i ≡ 3 → ⊥) → firstByte K i ≡ start K i
+  unfolding firstByte
+  first-other d = rw (ne-eqb (kind K i) 3 d, firstByte)

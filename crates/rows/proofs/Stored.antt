@@ -19,8 +19,9 @@ use Rattle.grammar.proofs.Logic.{below}
 use Rattle.grammar.proofs.Runs.{run-append, front-spelled}
 use Rattle.grammar.proofs.Scanned.{scan-tokens, length-tokens, taken-not-blank}
 use Rattle.grammar.proofs.TextParts.{Here, Stand, Behind, offsets-behind, offsets-stand}
-use Rattle.rows.specs.Fields.{kind, start, size}
+use Rattle.rows.specs.Fields.{kind, start, firstByte, size}
 use Rattle.rows.specs.Tokens.{writtenOf, tokenIn, range, placeOf, sizeOf, kindAt, placeAt, sizeAt, Stored}
+use Rattle.rows.proofs.Fields.{first-quoted, first-other}
 use Rattle.rows.proofs.Ranges.{length-range, range-token}
 use Rattle.rows.proofs.TokenBytes.{kind-bounds, place-quoted, place-plain, token-ends, size-bound, size-plain, size-atom, token-bytes, written-within, place-within, read-doubled, token-read}
 
@@ -120,6 +121,17 @@ module _ {text : Bytes} {ps : List Placed} {K : List ℕ} (v : Stored text ps K)
 
     pub stored-offset : (kind K j ≡ 3 → ⊥) → start K j ≡ offsetOf text ps j
     stored-offset d = stored-place ∙ place-plain (tokenIn text K j) (offsetOf text ps j) (λ e. d (stored-kind ∙ e))
+
+    -- Where the first byte stands.
+    pub stored-byte : firstByte K j ≡ offsetOf text ps j
+    stored-byte =
+        below (kind K j) 3 (λ a. plain (λ z. omega arith)) (λ a. below 3 (kind K j) (λ b. plain (λ z. omega arith)) (λ b. quoted (omega arith)))
+      where
+        quoted : kind K j ≡ 3 → firstByte K j ≡ offsetOf text ps j
+        quoted e = first-quoted K j e ∙ omega (arith, stored-quoted e)
+
+        plain : (kind K j ≡ 3 → ⊥) → firstByte K j ≡ offsetOf text ps j
+        plain d = first-other K j d ∙ stored-offset d
 
     -- The kinds are those of tokens, and there are few bytes, of an atom one at least.
     pub stored-kinds : (1 ≤ kind K j) × (kind K j ≤ 9)

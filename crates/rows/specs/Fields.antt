@@ -1,6 +1,8 @@
 -- Rows of words: entry `i` of a row with `w` words to an entry has its word number `k` at `i * w + k`.
+use mathlib.Core.Bool.{true, false}
 use mathlib.Core.List.{List}
-use Prim.Native.Nat.{ℕ, _+_, _*_, _≤_, _<_}
+use Prim.Native.Nat.{ℕ, _+_, _-_, _*_, _≤_, _<_}
+use lib.Dec.{eqb}
 use lib.ListN.{length, getD, set}
 use Rattle.grammar.specs.Fault.{mostTokens}
 
@@ -30,6 +32,10 @@ size K i = field 4 2 K i
 
 abbrev pub closer : List ℕ → ℕ → ℕ
 closer K i = field 4 3 K i
+
+-- Where the first byte of a token stands: of a quoted name its quote.
+unfoldable pub firstByte : List ℕ → ℕ → ℕ
+firstByte K i = elim (eqb (kind K i) 3) [ true ↦ start K i - 1 | false ↦ start K i ]
 
 -- Of a row of roles.
 abbrev pub prefix : List ℕ → ℕ → ℕ

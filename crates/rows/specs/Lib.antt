@@ -4,4 +4,5 @@ pub mod InUse
 pub mod Tokens
 pub mod Agreeing
 pub mod Standing
+pub mod Below
 pub mod Reading

@@ -59,3 +59,20 @@ Roled R T i (bracket t) = Roled R T (suc i) t
 Roled R T i (block ds t) = Roled R (declareAll T ds) (suc (suc (i + length (allTokens ds)))) t
 Roled R T i (node l m r) =
     let a = i + length (flat l) in Noted T R a (symbol m) × ((f : Fixity) → Fit (role T m f)) × Roled R T i l × Roled R T (suc a) r
+
+-- The three rows of a text.
+pub record Rows : Type 0 where
+  pub tokens : List ℕ
+  pub roles : List ℕ
+  pub roots : List ℕ
+
+abbrev pub rows : List ℕ → List ℕ → List ℕ → Rows
+rows K R O = record { tokens = K; roles = R; roots = O }
+
+-- A tree that stands in the rows from token `from` to token `to`, under the operators `T`, with its root at token `at`.
+pub record Stands (places : ℕ → ℕ) (T : Table) (M : Rows) (from at to : ℕ) (t : Tree) : Type 0 where
+  pub tokened : Tokened places (M .tokens) from t
+  pub roled : Roled (M .roles) T from t
+  pub rooted : Rooted (M .roots) from t
+  pub root : suc at ≡ mark from t
+  pub end : to ≡ from + length (flat t)

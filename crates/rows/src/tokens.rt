@@ -1,9 +1,10 @@
 // What a token is, where its bytes begin and how many they are (a quoted name's as written, without the outer quotes), and which token
 // closes it: of `(` its `)`, of `let` its `in`, of `in` its `end`. Written by the scan, the closers by pairing.
+use crate::kinds;
 use crate::word;
 ghost use mathlib.Core.Path.{_≡_};
-ghost use Prim.Native.Nat.{_<_};
-ghost use Rattle.rows.specs.Fields.{Within, store, kind, start, size, closer};
+ghost use Prim.Native.Nat.{_≤_, _<_};
+ghost use Rattle.rows.specs.Fields.{Within, store, kind, start, firstByte, size, closer};
 
 pub const WORDS: usize = 4;
 
@@ -27,6 +28,18 @@ pub fn start(tokens: &[u16], i: usize) -> usize
     ensures { λ r. ⌜ r ≡ start (now (tokens .entry)) i ⌝ }
 {
     word::wide(tokens[i * WORDS + START])
+}
+
+// Where its first byte stands: of a quoted name its quote.
+pub fn offset(tokens: &[u16], i: usize) -> usize
+    requires { ⌜ Within 4 (now tokens) i × (kind (now tokens) i ≡ 3 → 1 ≤ start (now tokens) i) ⌝ }
+    ensures { λ r. ⌜ r ≡ firstByte (now (tokens .entry)) i ⌝ }
+{
+    let at = start(tokens, i);
+    if kind(tokens, i) == kinds::QUOTED {
+        return at - 1;
+    }
+    at
 }
 
 pub fn size(tokens: &[u16], i: usize) -> usize

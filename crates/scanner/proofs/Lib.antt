@@ -5,3 +5,4 @@ pub mod TokenAtFront
 pub mod ScanSteps
 pub mod StoredToken
 pub mod ScannedTo
+pub mod TokenSizes

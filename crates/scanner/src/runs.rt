@@ -1,4 +1,4 @@
-// Runs of bytes of a class, and the characters of a quoted name.
+// Runs of bytes of a class, where tokens end, and the characters of a quoted name.
 use crate::classes;
 ghost use mathlib.Core.Path.{_≡_};
 ghost use Prim.Native.Nat.{_+_};
@@ -7,6 +7,7 @@ ghost use Rattle.grammar.specs.Token.{inWord, isQuote};
 ghost use Rattle.grammar.specs.Scan.{run};
 ghost use Rattle.scanner.specs.Classes.{IsTable, inClass};
 ghost use Rattle.scanner.specs.Scanning.{firstSize};
+ghost use Rattle.scanner.specs.Places.{tokenEnd, blanksEnd};
 
 // Where the bytes of a class from `at` on end.
 pub fn run_end(table: &[u8; 256], text: &[u8], at: usize, class: u8) -> usize
@@ -40,6 +41,30 @@ pub fn word_end(table: &[u8; 256], text: &[u8], at: usize) -> usize
         }
     }
     i
+}
+
+// Where the blanks from `at` on end.
+pub fn blanks_end<'a>(table: &'a [u8; 256], text: &'a [u8], at: usize) -> usize
+    requires { ⌜ IsTable (now table) ⌝ }
+    ensures { λ r. ⌜ r ≡ blanksEnd (now (text .entry)) at ⌝ }
+{
+    run_end(table, text, at, byte_classes::BLANK)
+}
+
+// Where the token that begins at `at` ends, if it is no quoted name. Behind the text `at` itself.
+pub fn token_end<'a>(table: &'a [u8; 256], text: &'a [u8], at: usize) -> usize
+    requires { ⌜ IsTable (now table) ⌝ }
+    ensures { λ r. ⌜ r ≡ tokenEnd (now (text .entry)) at ⌝ }
+{
+    if text.len() <= at {
+        return at;
+    }
+    match classes::class(table, text[at]) {
+        byte_classes::LETTER => word_end(table, text, at + 1),
+        byte_classes::DIGIT => run_end(table, text, at + 1, byte_classes::DIGIT),
+        byte_classes::SIGN => run_end(table, text, at + 1, byte_classes::SIGN),
+        _ => at + 1,
+    }
 }
 
 // Whether a quote stands at `at`. Behind the text stands none.

@@ -3,7 +3,7 @@
 use mathlib.Core.Path.{_≡_, refl, sym, ap, fun-ext, _∙_}
 use mathlib.Core.Logic.{inl}
 use mathlib.Core.List.{List}
-use Prim.Native.Nat.{ℕ, suc, _<_}
+use Prim.Native.Nat.{ℕ, suc, _≤_, _<_}
 use native.Mathlib.Omega.{arith}
 use lib.ListN.{length}
 use Rattle.grammar.specs.Bytes.{Bytes}
@@ -16,9 +16,9 @@ use Rattle.rows.specs.Codes.{roleCode, arrivalOf}
 use Rattle.rows.specs.Agreeing.{rolesFor, arrivalFor, KeptOutside, NotedAt}
 use Rattle.rows.proofs.Fields.{within}
 use Rattle.rows.proofs.Noting.{kept-none, kept-join, noted-kept, WordsAt, words-stored, noted, number-noted, NotedAtom, number-item}
-use Rattle.starting_operators.specs.Starting.{startNumber, startRoles, Unnumbered, Notable, NotedToken, NotesToken, NotesAll}
+use Rattle.starting_operators.specs.Starting.{startNumber, startRoles, startCount, Unnumbered, Notable, NotedToken, NotesToken, NotesAll}
 use Rattle.starting_operators.proofs.Numbers.{start-roles}
-use Rattle.starting_operators.proofs.Roles.{coded-none, no-postfix}
+use Rattle.starting_operators.proofs.Roles.{no-postfix, no-role-beyond, no-arrival-beyond}
 
 -- A token of those in the rows.
 module _ {text : Bytes} {K R : List ℕ} {n : ℕ} (g : Notable text K R n) {i : ℕ} (h : i < n) where
@@ -67,8 +67,8 @@ module _ (name : Bytes) (R : List ℕ) (i : ℕ) (R′ : List ℕ) (w : Within 4
 
   pub unnumbered-noted : Unnumbered name → R′ ≡ withWords R i 0 0 0 0 → NotedAt startTable R i (symbol name) R′
   unnumbered-noted u s =
-      let c = coded-none 8 (omega arith) (λ z. omega arith) in
-      symbol-noted (sym u) (c .prefixed) (c .between) s (c .arrives)
+      let z : startCount ≤ startCount = omega arith in
+      symbol-noted (sym u) (no-role-beyond startCount z Prefix) (no-role-beyond startCount z Infix) s (no-arrival-beyond startCount z)
 
 -- A token, by what is noted of it.
 module _ (text : Bytes) (K R : List ℕ) (i : ℕ) (R′ : List ℕ) where

@@ -5,37 +5,62 @@ use mathlib.Core.List.{List, [], _∷_}
 use mathlib.Core.Logic.{_⊎_}
 use mathlib.Core.Option.{none}
 use Prim.Native.Nat.{ℕ, zero, suc, _≤_, _<_}
-use lib.ListN.{length}
+use lib.ListN.{length, take}
 use Rattle.grammar.specs.Bytes.{Bytes, same}
-use Rattle.grammar.specs.Operator.{Roles, Table}
+use Rattle.grammar.specs.Operator.{Prefix, Infix, Roles, Table}
 use Rattle.grammar.specs.Scan.{Placed}
 use Rattle.grammar.specs.Declaration.{startTable}
 use Rattle.rows.specs.Fields.{kind, start, size, closer, arrival, Holds}
 use Rattle.rows.specs.Tokens.{writtenOf, atomIn, IsAtomKind, Stored}
+use Rattle.rows.specs.Codes.{roleCode}
 use Rattle.rows.specs.Agreeing.{Noted, KeptOutside}
 use Rattle.rows.specs.declared.class.Class.{Class}
 use Rattle.rows.specs.declared.class.Class.the-variants.{Name, Number, Operator, Bracket, Block}
+use Rattle.starting_operators.specs.declared.number.StartingOperator.{StartingOperator}
 
--- The number of the operator that has the name, as many as there are if none has it; and the roles of the operator with a number.
+-- The number of the operator that has the name, as many as there are if none has it; the name and the roles of the operator with a number.
 unfoldable pub numberIn : Table → Bytes → ℕ
 numberIn [] name = 0
 numberIn (o ∷ T) name = elim (same name (o .name)) [ true ↦ 0 | false ↦ suc (numberIn T name) ]
+
+unfoldable pub nameOf : Table → ℕ → Bytes
+nameOf [] n = []
+nameOf (o ∷ T) zero = o .name
+nameOf (o ∷ T) (suc n) = nameOf T n
 
 unfoldable pub rolesAt : Table → ℕ → Roles
 rolesAt [] n f = none
 rolesAt (o ∷ T) zero f = o .roles f
 rolesAt (o ∷ T) (suc n) f = rolesAt T n f
 
--- Those of the starting operators.
+-- Those of the starting operators, and how many there are.
 unfoldable pub startNumber : Bytes → ℕ
 startNumber name = numberIn startTable name
+
+unfoldable pub startName : ℕ → Bytes
+startName n = nameOf startTable n
 
 unfoldable pub startRoles : ℕ → Roles
 startRoles n = rolesAt startTable n
 
+unfoldable pub startCount : ℕ
+startCount = length startTable
+
 -- A name that none of them has.
 abbrev pub Unnumbered : Bytes → Type 0
-Unnumbered name = startNumber name ≡ 8
+Unnumbered name = startNumber name ≡ startCount
+
+-- The operator with number `n` as it stands in the code: its name is the first bytes of three. From `startCount` on there is none.
+pub record IsOperator (n : ℕ) (o : StartingOperator) : Type 0 where
+  pub named : take (o .size) (o .name) ≡ startName n
+  pub sized : o .size ≡ length (startName n)
+  pub prefixed : o .prefix ≡ roleCode (startRoles n Prefix)
+  pub between : o .«infix» ≡ roleCode (startRoles n Infix)
+
+-- All names with `size` bytes are those of operators with numbers from `from` to before `to`.
+pub record Ranges (size from to : ℕ) : Type 0 where
+  pub within : to ≤ startCount
+  pub all : (j : ℕ) → j < startCount → length (startName j) ≡ size → (from ≤ j) × (j < to)
 
 -- `n` tokens of the text, atoms and brackets, with a row for their roles.
 pub record Notable (text : Bytes) (K R : List ℕ) (n : ℕ) : Type 0 where

@@ -1,80 +1,78 @@
 // The starting operators by number, in the order of document 01.
 use rows::role;
 ghost use mathlib.Core.Path.{_≡_};
+ghost use lib.ListN.{length};
 ghost use Rattle.grammar.specs.Operator.{Prefix, Infix};
 ghost use Rattle.rows.specs.Codes.{roleCode, arrivalOf};
-ghost use Rattle.starting_operators.specs.Starting.{startNumber, startRoles};
-
-pub const OR: usize = 0;
-
-pub const AND: usize = 1;
-
-pub const NOT: usize = 2;
-
-pub const EQUAL: usize = 3;
-
-pub const LESS: usize = 4;
-
-pub const PLUS: usize = 5;
-
-pub const MINUS: usize = 6;
-
-pub const TIMES: usize = 7;
+ghost use Rattle.starting_operators.specs.Starting.{startNumber, startRoles, IsOperator, Ranges};
 
 // How many there are, which stands for none of them too.
 pub const COUNT: usize = 8;
 
-// Their precedences: of `or`, `and` and `not`, of `=` and `<`, of `+` and `-`, and of `*`.
-pub const DISJUNCTION: u16 = 800;
+// A starting operator: its name, of `size` bytes, and the numbers of its roles, of which none is postfix.
+pub struct StartingOperator {
+    pub name: [u8; 3],
+    pub size: usize,
+    pub prefix: u16,
+    pub infix: u16,
+}
 
-pub const CONJUNCTION: u16 = 700;
+// A line of the table below.
+fn of(name: [u8; 3], size: usize, prefix: u16, infix: u16) -> StartingOperator
+    ensures { λ r. ⌜ (r .name ≡ name) × (r .size ≡ size) × (r .prefix ≡ prefix) × (r .«infix» ≡ «infix») ⌝ }
+{
+    StartingOperator {
+        name,
+        size,
+        prefix,
+        infix,
+    }
+}
 
-pub const NEGATION: u16 = 600;
+// The operator with a number, a line for each: its name filled up with blanks, the size of the name, its prefix and its infix role.
+// A role is an associativity plus a precedence.
+pub fn operator(number: usize) -> StartingOperator
+    ensures { λ r. ⌜ IsOperator number r ⌝ }
+{
+    match number {
+        0 => of(*b"or ", 2, 0, role::LEFT + 800),
+        1 => of(*b"and", 3, 0, role::LEFT + 700),
+        2 => of(*b"not", 3, role::RIGHT + 600, 0),
+        3 => of(*b"=  ", 1, 0, role::NON + 500),
+        4 => of(*b"<  ", 1, 0, role::NON + 500),
+        5 => of(*b"+  ", 1, 0, role::LEFT + 400),
+        6 => of(*b"-  ", 1, role::NON + 400, role::LEFT + 400),
+        7 => of(*b"*  ", 1, 0, role::LEFT + 300),
+        _ => of(*b"   ", 0, 0, 0),
+    }
+}
 
-pub const COMPARISON: u16 = 500;
-
-pub const SUM: u16 = 400;
-
-pub const PRODUCT: u16 = 300;
+// The number of the operator that has the name, where all with names of that length have numbers from `from` to before `to`.
+fn among(name: &[u8], from: usize, to: usize) -> usize
+    requires { ⌜ Ranges (length (now name)) from to ⌝ }
+    ensures { λ r. ⌜ r ≡ startNumber (now (name .entry)) ⌝ }
+{
+    let mut k = from;
+    while k < to {
+        let o = operator(k);
+        let written = o.name;
+        let n = o.size;
+        if byte_strings::equal(name, &written[0..n]) {
+            return k;
+        }
+        k += 1;
+    }
+    COUNT
+}
 
 // The number of the operator that has the name.
 pub fn number(name: &[u8]) -> usize
     ensures { λ r. ⌜ r ≡ startNumber (now (name .entry)) ⌝ }
 {
     match name.len() {
-        1 => match name[0] {
-            b'=' => EQUAL,
-            b'<' => LESS,
-            b'+' => PLUS,
-            b'-' => MINUS,
-            b'*' => TIMES,
-            _ => COUNT,
-        },
-        2 => {
-            if name[0] == b'o' {
-                if name[1] == b'r' {
-                    return OR;
-                }
-            }
-            COUNT
-        }
-        3 => {
-            if name[0] == b'a' {
-                if name[1] == b'n' {
-                    if name[2] == b'd' {
-                        return AND;
-                    }
-                }
-            }
-            if name[0] == b'n' {
-                if name[1] == b'o' {
-                    if name[2] == b't' {
-                        return NOT;
-                    }
-                }
-            }
-            COUNT
-        }
+        1 => among(name, 3, COUNT),
+        2 => among(name, 0, 1),
+        3 => among(name, 1, 3),
         _ => COUNT,
     }
 }
@@ -83,36 +81,20 @@ pub fn number(name: &[u8]) -> usize
 pub fn prefix(number: usize) -> u16
     ensures { λ r. ⌜ r ≡ roleCode (startRoles number Prefix) ⌝ }
 {
-    match number {
-        NOT => role::RIGHT + NEGATION,
-        MINUS => role::NON + SUM,
-        _ => 0,
-    }
+    let o = operator(number);
+    o.prefix
 }
 
 pub fn infix(number: usize) -> u16
     ensures { λ r. ⌜ r ≡ roleCode (startRoles number Infix) ⌝ }
 {
-    match number {
-        OR => role::LEFT + DISJUNCTION,
-        AND => role::LEFT + CONJUNCTION,
-        EQUAL | LESS => role::NON + COMPARISON,
-        PLUS | MINUS => role::LEFT + SUM,
-        TIMES => role::LEFT + PRODUCT,
-        _ => 0,
-    }
+    let o = operator(number);
+    o.infix
 }
 
 pub fn arrival(number: usize) -> u16
     ensures { λ r. ⌜ r ≡ arrivalOf (startRoles number) ⌝ }
 {
-    match number {
-        OR => DISJUNCTION + 1,
-        AND => CONJUNCTION + 1,
-        NOT => 1,
-        EQUAL | LESS => COMPARISON + 1,
-        PLUS | MINUS => SUM + 1,
-        TIMES => PRODUCT + 1,
-        _ => 0,
-    }
+    let o = operator(number);
+    role::arrival(o.prefix, o.infix, 0)
 }

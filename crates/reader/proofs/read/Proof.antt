@@ -1,6 +1,6 @@
--- What the common part leaves is what the service promises.
-use mathlib.Core.Path.{refl}
+-- What the front leaves is what the service promises.
 use borrow.Author.Needs.{needs}
+use Rattle.reader.proofs.HandedOut.{read-handed-out}
 use Rattle.reader.proofs.read.Statement.{statement}
 use Rattle.reader.proofs.read.Tie as tie
 
@@ -10,11 +10,14 @@ slice-aggregate-serve c = search needs
 serve-requires : tie.Need-serve-requires
 serve-requires c κs = search needs
 
+handed-out-requires : tie.Need-handed-out-requires
+handed-out-requires c κs = search needs
+
 same-length : tie.Need-same-length
 same-length c = search needs
 
 returns : tie.Need-returns
-returns c = c .before .before .before .serve .ensures .reading refl .0
+returns c = read-handed-out (c .handed-out .ensures) (c .before .before .before .before .serve .ensures)
 
 pub read-spec : {M : Type 1} → statement M
-read-spec = tie.close (tie.spec slice-aggregate-serve serve-requires same-length returns)
+read-spec = tie.close (tie.spec slice-aggregate-serve serve-requires handed-out-requires same-length returns)

@@ -8,7 +8,7 @@ use Rattle.operators.specs.Entries.{tableBy}
 use Rattle.operators.specs.declared.table.Table.{Table}
 use Rattle.rows.specs.declared.class.Class.{Class}
 use Rattle.operators.proofs.Lookups.{found-below}
-use Rattle.rows.proofs.Noting.{words-stored, number-noted, symbol-item, number-item, name-item}
+use Rattle.rows.proofs.Noting.{words-stored, symbol-item, name-item}
 use Rattle.resolving.specs.Resolving.{Unfound}
 use Rattle.resolving.proofs.Classes.{
   Says,
@@ -19,6 +19,7 @@ use Rattle.resolving.proofs.Classes.{
   part-doubled,
   part-named,
   name-kind,
+  no-roles-noted,
 }
 use Rattle.resolving.proofs.note.Statement.{statement}
 use Rattle.resolving.proofs.note.Tie as tie
@@ -41,30 +42,30 @@ operators c = let a = entry c .args in tableBy (a .words .now) (a .hints .now) (
 classify-requires : tie.Need-classify-requires
 classify-requires c κs = search needs
 
-enum-known-entry : tie.Need-enum-known-entry
-enum-known-entry c = search needs
+enum-known-class : tie.Need-enum-known-class
+enum-known-class c = search needs
 
 store-operator-requires : tie.Need-store-operator-requires
 store-operator-requires c κs =
     let n = c .before .before in
     let d = n .before .before in
     let e = entry d in
-    let found = says d _ (n .entry .given .1) .1 in (
+    let found = says d _ (n .class .given .1) .1 in (
       roles-within (e .pre .0 .1) (e .pre .0 .2),
       (_, e .args .hints .now, e .args .count, e .pre .1, found-below _ (operators d) _ found),
     )
 
-enum-known-start : tie.Need-enum-known-start
-enum-known-start c = search needs
+enum-known-class-2 : tie.Need-enum-known-class-2
+enum-known-class-2 c = search needs
 
 -- A name, and where it ends in the text.
 ends :
-    (c : tie.After-start)
-    → c .start .given .0 .0 + c .start .given .0 .1 .0 ≤ length (entry (c .before .before) .args .text .now)
+    (c : tie.After-class2)
+    → c .class2 .given .0 .0 + c .class2 .given .0 .1 .0 ≤ length (entry (c .before .before) .args .text .now)
 ends c =
     let d = c .before .before in
     let p = entry d .pre .0 in
-    let s = says d _ (c .start .given .1) in
+    let s = says d _ (c .class2 .given .1) in
     part-within (p .1) (p .2) (s .0) (s .1)
 
 add-e : tie.Need-add-e
@@ -87,29 +88,14 @@ store-name-requires c κs =
     let n = c .before .before .before .before in
     let d = n .before .before in
     let p = entry d .pre .0 in
-    let s = says d _ (n .start .given .1) in (
+    let s = says d _ (n .class2 .given .1) in (
       roles-within (p .1) (p .2),
       entry d .pre .1,
       part-named (p .1) (p .2) (s .0) (s .1) (name-kind (s .2)),
     )
 
-enum-told : tie.Need-enum-told
-enum-told c = search needs
-
 set-requires : tie.Need-set-requires
 set-requires c κs = search needs
-
-enum-known-closer : tie.Need-enum-known-closer
-enum-known-closer c = search needs
-
-set-requires-2 : tie.Need-set-requires-2
-set-requires-2 c κs = search needs
-
-enum-known-closer-2 : tie.Need-enum-known-closer-2
-enum-known-closer-2 c = search needs
-
-set-requires-3 : tie.Need-set-requires-3
-set-requires-3 c κs = search needs
 
 same-length : tie.Need-same-length
 same-length c = search needs
@@ -120,8 +106,10 @@ returns c =
     let n = o .before .before .before in
     let d = n .before .before in
     let e = entry d in
-    let s = says d _ (n .entry .given .1) in
-    symbol-item _ _ _ _ _ _ (s .0) (o .store-operator .ensures _ (e .args .hints .now) _ (e .pre .1) _ (s .1))
+    let s = says d _ (n .class .given .1) in (
+      sym (n .class .given .1) ∙ d .classify .ensures,
+      symbol-item _ _ _ _ _ _ (s .0) (o .store-operator .ensures _ (e .args .hints .now) _ (e .pre .1) _ (s .1)),
+    )
 
 same-length-2 : tie.Need-same-length-2
 same-length-2 c = search needs
@@ -133,9 +121,11 @@ returns-2 c =
     let n = k .before .before in
     let d = n .before .before in
     let p = entry d .pre .0 in
-    let s = says d _ (n .start .given .1) in
-    name-item _ _ _ _ _ _ (Unfound _ (operators d)) (k .kind .ensures) (part-is (p .1) (p .2) (s .0) (s .1)) (s .2) (part-doubled (p .1) (p .2))
-    (o .store-name .ensures)
+    let s = says d _ (n .class2 .given .1) in (
+      sym (n .class2 .given .1) ∙ d .classify .ensures,
+      name-item _ _ _ _ _ _ (Unfound _ (operators d)) (k .kind .ensures) (part-is (p .1) (p .2) (s .0) (s .1)) (s .2) (part-doubled (p .1) (p .2))
+          (o .store-name .ensures),
+    )
 
 same-length-3 : tie.Need-same-length-3
 same-length-3 c = search needs
@@ -144,64 +134,29 @@ returns-3 : tie.Need-returns-3
 returns-3 c =
     let o = c .before .before in
     let n = o .before .before in
-    let d = n .before .before in
+    let d = n .before in
     let p = entry d .pre .0 in
-    number-item _ _ _ _ _ _ (says d _ (n .enum-told .given .1))
-    (number-noted _ _ _ _ _ (words-stored _ (roles-within (p .1) (p .2)) (o .set .ensures) refl refl refl refl))
-
-same-length-4 : tie.Need-same-length-4
-same-length-4 c = search needs
-
-returns-4 : tie.Need-returns-4
-returns-4 c =
-    let o = c .before .before in
-    let n = o .before .before .before in
-    let d = n .before .before in
-    let p = entry d .pre .0 in
-    let s = says d _ (n .closer .given .1) in
-    let w = words-stored _ (roles-within (p .1) (p .2)) (o .set2 .ensures) refl refl refl refl in
-    (s .0, s .1, w .arrives, w .kept)
-
-same-length-5 : tie.Need-same-length-5
-same-length-5 c = search needs
-
-returns-5 : tie.Need-returns-5
-returns-5 c =
-    let o = c .before .before in
-    let n = o .before .before .before in
-    let d = n .before .before in
-    let p = entry d .pre .0 in
-    let s = says d _ (n .closer2 .given .1) in
-    let w = words-stored _ (roles-within (p .1) (p .2)) (o .set3 .ensures) refl refl refl refl in
-    (s .0, s .1, w .arrives, w .kept)
+    let w = words-stored _ (roles-within (p .1) (p .2)) (o .set .ensures) refl refl refl refl in
+    (d .classify .ensures, no-roles-noted _ _ _ _ _ _ _ _ (d .classify .result) (n .match .keys3) (says d _ refl) w)
 
 pub note-spec : {M : Type 1} → statement M
 note-spec =
     tie.close
     (tie.spec
     classify-requires
-    enum-known-entry
+    enum-known-class
     store-operator-requires
-    enum-known-start
+    enum-known-class-2
     add-e
     kind-requires
     sub-store-name
     part-store-name-start
     part-store-name-end
     store-name-requires
-    enum-told
     set-requires
-    enum-known-closer
-    set-requires-2
-    enum-known-closer-2
-    set-requires-3
     same-length
     returns
     same-length-2
     returns-2
     same-length-3
-    returns-3
-    same-length-4
-    returns-4
-    same-length-5
-    returns-5)
+    returns-3)

@@ -10,7 +10,7 @@ use Rattle.grammar.specs.Tree.{Tree}
 use Rattle.rows.specs.Fields.{kind}
 use Rattle.rows.specs.Codes.{roleOf, IsRole}
 use Rattle.canonical_text.specs.Brackets.{stays, OperandAt}
-use Rattle.canonical_text.proofs.Leads.{leads-within}
+use Rattle.rows.proofs.BelowTokens.{leads-within}
 use Rattle.canonical_text.proofs.Operand.{
   operand-none,
   is-role,

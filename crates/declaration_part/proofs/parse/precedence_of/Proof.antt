@@ -1,7 +1,6 @@
 -- The tests are those of `writtenFrom`; no digits are no precedence. Assumes nothing.
 use mathlib.Core.Path.{sym, ap, _∙_}
 use borrow.Author.Needs.{needs}
-use lib.ListN.{take, drop}
 use Rattle.declaration_part.specs.Parsing.{precedenceCode}
 use Rattle.declaration_part.proofs.Precedences.{precedence-empty}
 use Rattle.declaration_part.proofs.Parts.{stands-end, stands-here, stands-other, from-here, from-none}
@@ -9,7 +8,7 @@ use Rattle.declaration_part.proofs.parse.precedence_of.Statement.{state
 use Rattle.declaration_part.proofs.parse.precedence_of.Tie as tie
 
 returns : tie.Need-returns
-returns c = sym (ap precedenceCode (from-none 2 _ _ _ _ _ (stands-end 2 _ _ _ (c .if1 .taken))) ∙ precedence-empty)
+returns c = sym (ap precedenceCode (from-none 2 _ _ _ _ _ _ (stands-end 2 _ _ _ (c .if1 .taken))) ∙ precedence-empty)
 
 kind-requires : tie.Need-kind-requires
 kind-requires c κs = search needs
@@ -19,29 +18,28 @@ returns-2 c =
     let k = c .before in
     sym
     (ap precedenceCode
-    (from-none 2 _ _ _ _ _ (stands-other 2 _ _ _ (k .before .if1 .left) (λ e. c .if2 .taken (k .kind .ensures ∙ e))))
+    (from-none 2 _ _ _ _ _ _ (stands-other 2 _ _ _ (k .before .if1 .left) (λ e. c .if2 .taken (k .kind .ensures ∙ e))))
     ∙ precedence-empty)
 
-size-requires : tie.Need-size-requires
-size-requires c κs = search needs
+sub-precedence : tie.Need-sub-precedence
+sub-precedence c = search needs
 
-token-at-requires : tie.Need-token-at-requires
-token-at-requires c κs = search needs
+part-precedence-start : tie.Need-part-precedence-start
+part-precedence-start c = search needs
+
+part-precedence-end : tie.Need-part-precedence-end
+part-precedence-end c = search needs
 
 precedence-requires : tie.Need-precedence-requires
 precedence-requires c κs = search needs
 
 returns-3 : tie.Need-returns-3
 returns-3 c =
-    let d = c .before in
-    let n = d .before in
-    let k = n .before .before in
-    let s = k .before .before .before .before in
+    let i = c .before .before in
+    let k = i .before in
     c .precedence .ensures
     ∙ ap precedenceCode
-    (d .token-at .ensures
-    ∙ ap (λ z. take z (drop (s .args .place) (s .args .text .now))) (n .size .ensures)
-    ∙ sym (from-here 2 _ _ _ _ _ (stands-here 2 _ _ _ (k .before .if1 .left) (sym (k .kind .ensures) ∙ n .before .if2 .left))))
+    (sym (from-here 2 _ _ _ _ _ _ (stands-here 2 _ _ _ (k .before .if1 .left) (sym (k .kind .ensures) ∙ i .if2 .left))))
 
 pub precedence-of-spec : {M : Type 1} → statement M
 precedence-of-spec =
@@ -50,7 +48,8 @@ precedence-of-spec =
     returns
     kind-requires
     returns-2
-    size-requires
-    token-at-requires
+    sub-precedence
+    part-precedence-start
+    part-precedence-end
     precedence-requires
     returns-3)

@@ -17,9 +17,10 @@ use Rattle.rows.specs.Codes.{IsRole}
 use Rattle.rows.proofs.InUse.{beside-right}
 use Rattle.nodes.specs.Node.{precedenceOf, tokenWords, blockWords, prefixOrInfixWords, HasNode, EndsInChild, Appended}
 use Rattle.nodes.specs.First.{firstPart}
-use Rattle.nodes.specs.Building.{rows, Buildable, Built}
+use Rattle.nodes.specs.Building.{Buildable, Built}
+use Rattle.rows.specs.Standing.{rows}
 use Rattle.nodes.specs.declared.build.Part.the-variants.{Of}
-use Rattle.nodes.proofs.Nodes.{alone}
+use Rattle.rows.proofs.BelowTokens.{alone}
 use Rattle.nodes.proofs.Parts.{
   secondPart,
   lastRole,
@@ -62,7 +63,7 @@ use Rattle.nodes.proofs.build.build.Reads as build
 use Rattle.nodes.proofs.build.build.Kinds as build-kinds
 use Rattle.nodes.proofs.build.+build.Lts-build as build-lts
 use Rattle.nodes.proofs.build.first.Reads as first-reads
-use Rattle.nodes.proofs.build.is_leaf.Reads as is-leaf-reads
+use Rattle.rows.proofs.below.stands_alone.Reads as stands-alone-reads
 use Rattle.nodes.proofs.build.opener.Reads as opener-reads
 use Rattle.nodes.proofs.node.block.Reads as block-reads
 use Rattle.nodes.proofs.node.bracket.Reads as bracket-reads
@@ -106,8 +107,8 @@ calls t = (
   role-beside-reads.Learnt,
   unary-reads.Asked,
   unary-reads.Learnt,
-  is-leaf-reads.Asked,
-  is-leaf-reads.Learnt,
+  stands-alone-reads.Asked,
+  stands-alone-reads.Learnt,
   prefix-or-infix-reads.Asked,
   prefix-or-infix-reads.Learnt,
 )
@@ -397,18 +398,18 @@ module _ (t : ℕ) where
   build-mul-after : build-lts.Need-mul-after (calls t) (build-at t) build.Post
   build-mul-after c = omega (arith, lent-here (c .before))
 
-  build-sub-is-leaf : build-lts.Need-sub-is-leaf (calls t) (build-at t) build.Post
-  build-sub-is-leaf c = omega (arith, c .before .if3 .left)
+  build-sub-stands-alone : build-lts.Need-sub-stands-alone (calls t) (build-at t) build.Post
+  build-sub-stands-alone c = omega (arith, c .before .if3 .left)
 
-  build-is-leaf-requires : build-lts.Need-is-leaf-requires (calls t) (build-at t) build.Post
-  build-is-leaf-requires c κs = let h = right-asks (c .before) .1 in (root-token h, root-root h)
+  build-stands-alone-requires : build-lts.Need-stands-alone-requires (calls t) (build-at t) build.Post
+  build-stands-alone-requires c κs = let h = right-asks (c .before) .1 in (root-token h, root-root h)
 
   -- One atom.
   atom-here : (c : build-lts.After-leaf2 (calls t) (build-at t) build.Post)
       → RightBuilt (c .before .before .before .before .before) (c .leaf2 .last .1 .1 .0) (c .leaf2 .result)
   atom-here c =
       let p = c .before .before in
-      let a = alone _ _ _ (sym (p .before .is-leaf .ensures) ∙ p .if5 .taken) in
+      let a = alone _ _ _ (sym (p .before .stands-alone .ensures) ∙ p .if5 .taken) in
       atom-done (right-asks (p .before .before .before) .1) (a .0) (a .1) (a .2) (c .leaf2 .ensures)
 
   build-sub-leaf : build-lts.Need-sub-leaf (calls t) (build-at t) build.Post
@@ -517,8 +518,8 @@ pub +build-spec : {M : Type 1} → statement M
     (build-same-length-4 t)
     (build-returns-4 t)
     (build-mul-after t)
-    (build-sub-is-leaf t)
-    (build-is-leaf-requires t)
+    (build-sub-stands-alone t)
+    (build-stands-alone-requires t)
     (build-sub-leaf t)
     (build-mul-leaf t)
     (build-sub-leaf-2 t)

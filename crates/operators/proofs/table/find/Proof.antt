@@ -11,15 +11,15 @@ use Rattle.operators.proofs.table.find.Statement.{statement}
 use Rattle.operators.proofs.table.find.Tie as tie
 
 abbrev Inv-loop : tie.InvT-loop
-Inv-loop text words hints count name hint i₀ i =
+Inv-loop text words hints count name hint number i₀ i =
     (i ≤ count) × (codedFind text words name 0 count ≡ codedFind text words name i (count - i))
 
 abbrev μ-loop : tie.MeasureT-loop
-μ-loop text words hints count name hint i₀ i = count - i
+μ-loop text words hints count name hint number i₀ i = count - i
 
--- From the entry of the function on: the table is sound, so an entry below the count has its name within the text or the starting names.
-abbrev entered : tie.Else1 Inv-loop μ-loop → tie.Start Inv-loop μ-loop
-entered c = c .before .before .before .before .before .before
+-- From the entry of the function on: the table is sound, so an entry below the count has its name within the text or a starting operator's.
+abbrev entered : tie.After-number Inv-loop μ-loop → tie.Start Inv-loop μ-loop
+entered c = c .before .before .before .before .before .before .before
 
 hash-requires : tie.Need-hash-requires Inv-loop μ-loop
 hash-requires c κs = search needs
@@ -37,6 +37,9 @@ returns c =
     sym (unhinted _ _ (s .pre .0) _
     (ap (λ h. getD (s .args .hints .now) h 0) (sym (h .hash .ensures .0)) ∙ sym (c .before .wide .ensures) ∙ c .if1 .taken))
 
+number-requires : tie.Need-number-requires Inv-loop μ-loop
+number-requires c κs = search needs
+
 sub-entry : tie.Need-sub-entry Inv-loop μ-loop
 sub-entry c = search needs
 
@@ -44,13 +47,13 @@ has-name-requires : tie.Need-has-name-requires Inv-loop μ-loop
 has-name-requires c κs =
     let s = entered (c .before) in
     let n = s .pre .0 .sized in
-    let l : c .before .before .wide .result - 1 < s .args .count = omega arith in
-    (omega arith, sound-stands _ _ (s .pre .0) _ l)
+    let l : c .before .before .before .wide .result - 1 < s .args .count = omega arith in
+    (omega arith, sound-stands _ _ (s .pre .0) _ l, c .before .number .ensures)
 
 returns-2 : tie.Need-returns-2 Inv-loop μ-loop
 returns-2 c =
     let s = entered (c .before .before .before) in
-    let l : c .before .before .before .before .wide .result - 1 < s .args .count = omega arith in
+    let l : c .before .before .before .before .before .wide .result - 1 < s .args .count = omega arith in
     sym (found-named _ _ (s .pre .0) _ _ l (sym (c .before .has-name .ensures) ∙ c .if3 .taken))
 
 loop-holds : tie.Need-loop-holds Inv-loop μ-loop
@@ -60,7 +63,7 @@ has-name-requires-2 : tie.Need-has-name-requires-2 Inv-loop μ-loop
 has-name-requires-2 c κs =
     let s = entered (c .before .before .before) in
     let n = s .pre .0 .sized in
-    (omega arith, sound-stands _ _ (s .pre .0) _ (c .loop-test .taken))
+    (omega arith, sound-stands _ _ (s .pre .0) _ (c .loop-test .taken), c .before .before .before .number .ensures)
 
 returns-3 : tie.Need-returns-3 Inv-loop μ-loop
 returns-3 c =
@@ -93,6 +96,7 @@ find-spec =
     element-copy-out-hint
     wide-requires
     returns
+    number-requires
     sub-entry
     has-name-requires
     returns-2

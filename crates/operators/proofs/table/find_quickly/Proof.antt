@@ -2,7 +2,6 @@
 use mathlib.Core.Path.{sym, ap, _∙_}
 use lib.ListN.{getD}
 use borrow.Author.Needs.{needs}
-use Rattle.operators.proofs.Starts.{start-spelled}
 use Rattle.operators.proofs.Searches.{start-below, unhinted, found-start}
 use Rattle.operators.proofs.table.find_quickly.Statement.{statement}
 use Rattle.operators.proofs.table.find_quickly.Tie as tie
@@ -27,16 +26,13 @@ cast-if2 c =
     let s = c .before .before .before .before in
     record { fits = start-below _ _ (s .pre .0 .1) _ (c .before .if1 .taken) }
 
-mul-if2-3 : tie.Need-mul-if2-3
-mul-if2-3 c = search needs
-
 add-if2-2 : tie.Need-add-if2-2
 add-if2-2 c = search needs
 
 returns : tie.Need-returns
 returns c text sound =
     let d = c .before .before in
-    found-start text _ sound _ _ (d .if1 .taken) (start-spelled _ _ (d .before .number .ensures)) (c .if2 .taken)
+    found-start text _ sound _ _ (d .if1 .taken) (d .before .number .ensures) (c .if2 .taken)
 
 hash-requires : tie.Need-hash-requires
 hash-requires c κs = search needs
@@ -62,7 +58,6 @@ find-quickly-spec =
     mul-if2-2
     element-copy-out-if2
     cast-if2
-    mul-if2-3
     add-if2-2
     returns
     hash-requires

@@ -8,13 +8,13 @@ use Rattle.operators.proofs.TableEntries.{name-end}
 use Rattle.operators.proofs.table.has_name.Statement.{statement}
 use Rattle.operators.proofs.table.has_name.Tie as tie
 
--- The name lies within the text or the starting names: so both words are numbers of the machine's own size.
+-- The name lies within the text or is a starting operator's: so both words are numbers of the machine's own size.
 ended : (c : tie.After-shared-slice-known2) → let s = c .before .before in
     nameStart (s .args .words .now) (s .args .i) + nameSize (s .args .words .now) (s .args .i) < 2 ^ 64
 ended c =
     let s = c .before .before in
     let l : length (s .args .text .now) < 2 ^ 64 = omega arith in
-    name-end (s .args .text .now) _ _ (2 ^ 64) (s .pre .1) l (omega arith)
+    name-end (s .args .text .now) _ _ (s .pre .1) l
 
 mul-w : tie.Need-mul-w
 mul-w c = search needs

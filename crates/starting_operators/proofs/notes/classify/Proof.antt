@@ -1,7 +1,7 @@
--- The tests tell the kinds apart; a symbol is an operator if its bytes have a number below 8.
+-- The tests tell the kinds apart; a symbol is an operator if its bytes have the number of one.
 use mathlib.Core.Path.{_≡_, ap, _∙_}
 use mathlib.Core.Logic.{inl, inr}
-use Prim.Native.Nat.{ℕ, _+_, _-_, _≤_}
+use Prim.Native.Nat.{ℕ, _+_, _≤_}
 use native.Mathlib.Omega.{arith}
 use lib.ListN.{length}
 use borrow.Author.Needs.{needs}
@@ -9,7 +9,7 @@ use Rattle.rows.specs.Fields.{kind, start, size}
 use Rattle.rows.specs.Tokens.{writtenOf}
 use Rattle.rows.proofs.Stored.{part-ends, part-written, stored-kinds}
 use Rattle.starting_operators.specs.Starting.{startNumber}
-use Rattle.starting_operators.proofs.Numbers.{beyond-unnumbered}
+use Rattle.starting_operators.proofs.Numbers.{computedCount, beyond-unnumbered}
 use Rattle.starting_operators.proofs.NotedTokens.{stands}
 use Rattle.starting_operators.proofs.notes.classify.Statement.{statement}
 use Rattle.starting_operators.proofs.notes.classify.Tie as tie
@@ -54,6 +54,7 @@ returns-3 : tie.Need-returns-3
 returns-3 c = (is-symbol (c .before .before .before), numbered (c .before))
 
 returns-4 : tie.Need-returns-4
+unfolding computedCount
 returns-4 c =
     let n = c .before in
     let s = n .before .before .before in

@@ -1,17 +1,23 @@
 -- The class says what the token is, and what is stored is what the operator with the number of its bytes has; a number and a bracket
 -- have four zeros.
 use mathlib.Core.Path.{_≡_, subst}
-use Prim.Native.Nat.{_+_, _≤_}
+use mathlib.Core.List.{List, [], _∷_}
+use Prim.Native.Nat.{ℕ, _+_, _≤_}
 use native.Mathlib.Omega.{arith}
 use lib.ListN.{length}
 use borrow.Author.Needs.{needs}
+use types.Run.{OneOf, miss}
+use denote.Enum.Declared.{tagOf}
+use Rattle.grammar.specs.Bytes.{Bytes}
 use Rattle.grammar.proofs.Doubling.{IsDoubled}
-use Rattle.rows.specs.Fields.{Within, kind}
+use Rattle.rows.specs.Fields.{Within, kind, withWords}
 use Rattle.rows.specs.Tokens.{writtenOf}
 use Rattle.rows.specs.declared.class.Class.{Class}
+use Rattle.rows.specs.declared.class.Class.the-variants.{Name, Number, Operator, Bracket, Block}
+use Rattle.rows.proofs.class.Class.{the-type}
 use Rattle.rows.proofs.Stored.{part-ends, part-written, stored-doubled}
 use Rattle.rows.proofs.Noting.{symbol-item, name-item}
-use Rattle.starting_operators.specs.Starting.{IsClass, Unnumbered}
+use Rattle.starting_operators.specs.Starting.{IsClass, Unnumbered, NotesToken}
 use Rattle.starting_operators.proofs.NotedTokens.{stands, roles-within, symbol-noted, atom-notes, number-notes, bracket-notes}
 use Rattle.starting_operators.proofs.notes.note.Statement.{statement}
 use Rattle.starting_operators.proofs.notes.note.Tie as tie
@@ -74,24 +80,22 @@ returns-2 c =
     atom-notes _ _ _ _ _
     (name-item _ _ _ _ _ _ Unnumbered (k .kind .ensures) (part-written _ (a .tokens .now) (a .i) (s .0) (s .1)) (s .2) (doubled-here d) (o .note-name .ensures))
 
+-- What is neither a name nor an operator has no roles: a number, or a bracket.
+no-roles :
+    (text : Bytes) (K R R′ : List ℕ) (i : ℕ) (x : Class) → OneOf (1 ∷ 3 ∷ 4 ∷ []) (tagOf the-type x) → IsClass text K i x → Within 4 R i
+    → R′ ≡ withWords R i 0 0 0 0 → NotesToken text K R i R′
+no-roles text K R R′ i (Name s n) k h w e = absurd (miss (1 ∷ 3 ∷ 4 ∷ []) 0 tt k)
+no-roles text K R R′ i (Operator n) k h w e = absurd (miss (1 ∷ 3 ∷ 4 ∷ []) 2 tt k)
+no-roles text K R R′ i Number k h w e = number-notes text K R i R′ w e h
+no-roles text K R R′ i (Bracket c) k h w e = bracket-notes text K R i R′ w e (h .0)
+no-roles text K R R′ i (Block c) k h w e = absurd h
+
 returns-3 : tie.Need-returns-3
 returns-3 c =
     let t = c .before .before in
     let n = t .before .before in
-    let d = n .before .before in
-    number-notes _ _ _ _ _ (here d) (t .set2 .ensures) (says d _ (n .enum-told .given .1))
-
-returns-4 : tie.Need-returns-4
-returns-4 c =
-    let t = c .before .before in
-    let n = t .before .before in
-    let d = n .before .before in
-    bracket-notes _ _ _ _ _ (here d) (t .set3 .ensures) (says d _ (n .enum-told2 .given .1) .0)
-
-returns-5 : tie.Need-returns-5
-returns-5 c =
-    let n = c .before .before .before .before in
-    absurd (says (n .before .before) _ (n .enum-told3 .given .1))
+    let d = n .before in
+    no-roles _ _ _ _ _ (d .classify .result) (n .match .keys3) (d .classify .ensures) (here d) (t .set2 .ensures)
 
 -- The other needs: the token stands in both rows, and the rows keep their lengths.
 pub note-spec : {M : Type 1} → statement M
@@ -111,19 +115,10 @@ note-spec =
     (λ c. search needs)
     part-note-name-end
     note-name-requires
-    (λ c. search needs)
-    (λ c κs. search needs)
-    (λ c. search needs)
-    (λ c κs. search needs)
-    (λ c. search needs)
     (λ c κs. search needs)
     (λ c. search needs)
     returns
     (λ c. search needs)
     returns-2
     (λ c. search needs)
-    returns-3
-    (λ c. search needs)
-    returns-4
-    (λ c. search needs)
-    returns-5)
+    returns-3)

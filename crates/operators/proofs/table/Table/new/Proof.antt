@@ -1,62 +1,66 @@
--- Each entry is put by its number and name, and the eight together are the table of the starting operators.
-use lib.ListN.{replicate}
+-- The entries of the first `k` operators stand in the words, with their hints; those of all are the table of the starting operators.
+use mathlib.Core.Path.{_≡_, sym}
+use Prim.Native.Nat.{_-_, _≤_, _<_}
+use native.Mathlib.Omega.{arith}
 use borrow.Author.Needs.{needs}
-use Rattle.operators.specs.Entries.{startedWords, startedHints}
-use Rattle.operators.proofs.StartTable.{each-entry, built-starting}
+use Rattle.starting_operators.specs.Starting.{startCount}
+use Rattle.starting_operators.proofs.Numbers.{computedCount}
+use Rattle.operators.proofs.Starts.{StartedTo, none-started, next-started, starting}
 use Rattle.operators.proofs.table.Table.new.Statement.{statement}
 use Rattle.operators.proofs.table.Table.new.Tie as tie
 
-returns : tie.Need-returns
-returns c =
-    let p8 = c .before .before in
-    let p7 = p8 .before .before .before .before .before .before in
-    let p6 = p7 .before .before .before .before .before .before in
-    let p5 = p6 .before .before .before .before .before .before in
-    let p4 = p5 .before .before .before .before .before .before in
-    let p3 = p4 .before .before .before .before .before .before in
-    let p2 = p3 .before .before .before .before .before .before in
-    let p1 = p2 .before .before .before .before .before .before in
-    let w = each-entry startedWords {M = replicate 320 0} (p1 .put .ensures .0) (p2 .put2 .ensures .0) (p3 .put3 .ensures .0) (p4 .put4 .ensures .0)
-    (p5 .put5 .ensures .0) (p6 .put6 .ensures .0) (p7 .put7 .ensures .0) (p8 .put8 .ensures .0) in
-    let h = each-entry startedHints {M = replicate 128 0} (p1 .put .ensures .1) (p2 .put2 .ensures .1) (p3 .put3 .ensures .1) (p4 .put4 .ensures .1)
-    (p5 .put5 .ensures .1) (p6 .put6 .ensures .1) (p7 .put7 .ensures .1) (p8 .put8 .ensures .1) in
-    rw (w, h) built-starting
+abbrev Inv-loop : tie.InvT-loop
+Inv-loop words₀ hints₀ k₀ words hints k = StartedTo k words hints × (k ≤ startCount)
 
--- The other needs: each lent array has its length.
+abbrev μ-loop : tie.MeasureT-loop
+μ-loop words₀ hints₀ k₀ words hints k = startCount - k
+
+loop-holds : tie.Need-loop-holds Inv-loop μ-loop
+loop-holds c = (none-started, omega arith)
+
+slice-aggregate-put : tie.Need-slice-aggregate-put Inv-loop μ-loop
+slice-aggregate-put c = sym (c .before .before .loop .inv .0 .words)
+
+slice-aggregate-put-2 : tie.Need-slice-aggregate-put-2 Inv-loop μ-loop
+slice-aggregate-put-2 c = sym (c .before .before .before .loop .inv .0 .hints)
+
+-- The operator whose entry is put is one of them.
+looked : (c : tie.In-loop Inv-loop μ-loop) → c .before .loop .k < startCount
+unfolding computedCount
+looked c = omega arith
+
+put-requires : tie.Need-put-requires Inv-loop μ-loop
+put-requires c κs =
+    let s = c .before .before .before .loop .inv .0 in
+    record { words = s .words; hints = s .hints; starting = looked (c .before .before) }
+
+loop-less : tie.Need-loop-less Inv-loop μ-loop
+loop-less c = omega (arith, looked (c .before .before .before .before .before))
+
+loop-again : tie.Need-loop-again Inv-loop μ-loop
+loop-again c =
+    let d = c .before .before .before .before .before in
+    let p = c .before .before .put .ensures in
+    (rw (p .0, p .1) (next-started (d .before .loop .inv .0) (looked d)), omega (arith, looked d))
+
+returns : tie.Need-returns Inv-loop μ-loop
+unfolding computedCount
+returns c =
+    let (s, h) = c .before .loop .inv in
+    let e : c .before .loop .k ≡ startCount = omega arith in
+    starting (rw e at s)
+
 pub new-spec : {M : Type 1} → statement M
 new-spec =
     tie.close
     (tie.spec
+    Inv-loop
+    μ-loop
+    loop-holds
+    slice-aggregate-put
+    slice-aggregate-put-2
+    put-requires
     (λ c. search needs)
-    (λ c. search needs)
-    (λ c. search needs)
-    (λ c κs. search needs)
-    (λ c. search needs)
-    (λ c. search needs)
-    (λ c. search needs)
-    (λ c κs. search needs)
-    (λ c. search needs)
-    (λ c. search needs)
-    (λ c. search needs)
-    (λ c κs. search needs)
-    (λ c. search needs)
-    (λ c. search needs)
-    (λ c. search needs)
-    (λ c κs. search needs)
-    (λ c. search needs)
-    (λ c. search needs)
-    (λ c. search needs)
-    (λ c κs. search needs)
-    (λ c. search needs)
-    (λ c. search needs)
-    (λ c. search needs)
-    (λ c κs. search needs)
-    (λ c. search needs)
-    (λ c. search needs)
-    (λ c. search needs)
-    (λ c κs. search needs)
-    (λ c. search needs)
-    (λ c. search needs)
-    (λ c. search needs)
-    (λ c κs. search needs)
+    loop-less
+    loop-again
     returns)

@@ -1,0 +1,3 @@
+pub mod DeclarationAt
+pub mod DeclarationLoop
+pub mod PartAnswers

@@ -1,0 +1,4 @@
+pub mod Reading
+pub mod Writing
+pub mod Locating
+pub mod Serving
