@@ -14,7 +14,7 @@ import sys
 
 WORD = re.compile(r"[^\s(){}.;,@\"«»`\[\]|:!?*/]+")
 DECLARED = re.compile(
-    r"\s*(?:(?:unfoldable|abbrev|pub)\s+)*(?:(data|record|module)\s+)?([^\s(){}:;,]+)(?:\s+\{[^}]*\})*\s*(?:\([^)]*\)\s*)*:(?: |$)"
+    r"\s*(?:(?:unfoldable|abbrev|pub)\s+)*(?:(data|record|module)\s+)?([^\s(){}:;,]+(?: [^\s(){}:;,]+)*)(?:\s+\{[^}]*\})*\s*(?:\([^)]*\)\s*)*:(?: |$)"
 )
 # Functions of the library with which names are joined by a dash.
 LIBRARY = {"length", "drop", "take", "append", "map", "code", "and"}
@@ -32,9 +32,9 @@ def declared(root):
             found = DECLARED.match(line)
             if not found or line.lstrip().startswith("--"):
                 continue
-            names.add(found.group(2))
+            names |= set(found.group(2).split())
             if "/specs/" in path and re.match(r"\s*(?:pub )?(?:unfoldable|abbrev)", line):
-                functions.add(found.group(2))
+                functions |= set(found.group(2).split())
     return names, functions
 
 

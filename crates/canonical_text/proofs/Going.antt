@@ -12,7 +12,7 @@ use borrow.Author.Tests.{lt-ltb, le-ltb, ltb-true, ltb-false}
 use Rattle.grammar.specs.Bytes.{Bytes}
 use Rattle.grammar.specs.Operator.{Role, Table}
 use Rattle.grammar.specs.Declaration.{declare_all, all_tokens}
-use Rattle.grammar.specs.SpanTree.{Position, onLeft, onRight, role_over}
+use Rattle.grammar.specs.SpanTree.{Position, on_left, on_right, role_over}
 use Rattle.grammar.specs.Tree.{Tree, nothing, leaf, bracket, block, node, flat, span_tree}
 use Rattle.grammar.proofs.Logic.{below}
 use Rattle.rows.specs.Fields.{kind, closer, size, arrival}
@@ -30,7 +30,7 @@ Going at K T i b (block ds t) =
 Going at K T i b (node l m r) =
     let a = i + length (flat l) in
     let o = role_over T (span_tree l) m (span_tree r) in
-    Going at K T i (ltb a at && stays T onLeft o l) l × Going at K T (suc a) (ltb a at && stays T onRight o r) r
+    Going at K T i (ltb a at && stays T on_left o l) l × Going at K T (suc a) (ltb a at && stays T on_right o r) r
 
 -- At the first token, where no bracket has a byte; and at the end.
 pub going_start :
@@ -203,7 +203,7 @@ module _ (at : ℕ) (K : List ℕ) where
     abbrev o : Option Role
     o = role_over T (span_tree l) m (span_tree r)
 
-    in_left : Going at K T i b (node l m r) → at < a → (at' : ℕ) (K' : List ℕ) → After at K T i (ltb a at && stays T onLeft o l) l at' K' → After at K T i b (node l m r) at' K'
+    in_left : Going at K T i b (node l m r) → at < a → (at' : ℕ) (K' : List ℕ) → After at K T i (ltb a at && stays T on_left o l) l at' K' → After at K T i b (node l m r) at' K'
     in_left g h at' K' f =
         let k = node-length l m r in
         let e : ltb a at ≡ ltb a at' = ahead at at' a a (omega arith) f.upto (omega arith) in
@@ -221,7 +221,7 @@ module _ (at : ℕ) (K : List ℕ) where
 
     in_right :
         Going at K T i b (node l m r) → a < at → (at' : ℕ) (K' : List ℕ)
-        → After at K T (suc a) (ltb a at && stays T onRight o r) r at' K' → After at K T i b (node l m r) at' K'
+        → After at K T (suc a) (ltb a at && stays T on_right o r) r at' K' → After at K T i b (node l m r) at' K'
     in_right g h at' K' f =
         let k = node-length l m r in
         let e : ltb a at ≡ ltb a at' = passed at at' (suc a) a (omega arith) (omega (arith, f.onward)) (omega arith) in
@@ -245,8 +245,8 @@ module _ (at : ℕ) (K : List ℕ) where
   at_operator {R} {O} {n} T i b l m r h e g K' k =
       let o = role_over T (span_tree l) m (span_tree r) in
       let c = suc (i + length (flat l)) in
-      let K₁ = kept_pair (stays T onLeft o l) K i in
-      let K₂ = kept_pair (stays T onRight o r) K₁ c in
+      let K₁ = kept_pair (stays T on_left o l) K i in
+      let K₂ = kept_pair (stays T on_right o r) K₁ c in
       let h₁ : TreeAt K₁ R O n T c r =
       tree_kept K K₁ R (λ j. pair_fields K i _ 0 j (omega arith) (λ z. omega arith)) (λ j. pair_fields K i _ 3 j (omega arith) (λ z. omega arith)) (pair_long K i _) (right_at h) in
       let q = node-length l m r in
@@ -255,14 +255,14 @@ module _ (at : ℕ) (K : List ℕ) where
         onward = omega arith;
         upto = omega arith;
         same =
-            λ j d. pair_elsewhere onRight o r h₁ j (λ x y. d (omega arith) (omega arith))
-            ∙ pair_elsewhere onLeft o l (left_at h) j (λ x y. d x (omega arith));
+            λ j d. pair_elsewhere on_right o r h₁ j (λ x y. d (omega arith) (omega arith))
+            ∙ pair_elsewhere on_left o l (left_at h) j (λ x y. d x (omega arith));
         going =
             rw (lt-ltb (i + length (flat l)) (suc at) (omega arith)) (
-              elsewhere (suc at) (suc at) K₁ K₂ T i _ l (λ j x y. refl) (λ j x y. pair_elsewhere onRight o r h₁ j (λ v w. omega arith))
-                  (pair_going onLeft o at (suc at) l (left_at h) (λ j x y. passed at (suc at) at j (omega arith) (omega arith) (omega arith)) f.0),
-              pair_going onRight o at (suc at) r h₁ (λ j x y. ahead at (suc at) c j (omega arith) (omega arith) x)
-                  (elsewhere at at K K₁ T c false r (λ j x y. refl) (λ j x y. pair_elsewhere onLeft o l (left_at h) j (λ v w. omega arith)) f.1),
+              elsewhere (suc at) (suc at) K₁ K₂ T i _ l (λ j x y. refl) (λ j x y. pair_elsewhere on_right o r h₁ j (λ v w. omega arith))
+                  (pair_going on_left o at (suc at) l (left_at h) (λ j x y. passed at (suc at) at j (omega arith) (omega arith) (omega arith)) f.0),
+              pair_going on_right o at (suc at) r h₁ (λ j x y. ahead at (suc at) c j (omega arith) (omega arith) x)
+                  (elsewhere at at K K₁ T c false r (λ j x y. refl) (λ j x y. pair_elsewhere on_left o l (left_at h) j (λ v w. omega arith)) f.1),
             );
       })
 

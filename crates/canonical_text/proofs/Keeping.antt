@@ -7,7 +7,7 @@ use native.Mathlib.Omega.{arith}
 use lib.ListN.{length}
 use Rattle.grammar.specs.Bytes.{Bytes}
 use Rattle.grammar.specs.Operator.{Table}
-use Rattle.grammar.specs.SpanTree.{onLeft, onRight, role_over}
+use Rattle.grammar.specs.SpanTree.{on_left, on_right, role_over}
 use Rattle.grammar.specs.Tree.{Tree, node, flat, span_tree}
 use Rattle.rows.specs.Fields.{field, kind, closer, size, arrival, Within}
 use Rattle.rows.proofs.Fields.{within}
@@ -83,7 +83,7 @@ module _ {K R O : List ℕ} {n : ℕ} {T : Table} {t : Tree} (h : Keepable K R O
     beside_row {U} {j} {l} {m} {r} p K'' e a =
         let o = role_over U (span_tree l) m (span_tree r) in
         let c = suc (j + length (flat l)) in
-        let K₁ = kept_pair (stays U onLeft o l) K' j in
+        let K₁ = kept_pair (stays U on_left o l) K' j in
         let kept : (k i : ℕ) → k < 4 → (k ≡ 2 → ⊥) → field 4 k K₁ i ≡ field 4 k K' i = λ k i x d. pair_fields K' j _ k i x d in
         let q : TreeAt K₁ R O n U c r =
         tree_kept K' K₁ R (λ i. kept 0 i (omega arith) (λ z. omega arith)) (λ i. kept 3 i (omega arith) (λ z. omega arith)) (pair_long K' j _) (right_at p) in
@@ -95,9 +95,9 @@ module _ {K R O : List ℕ} {n : ℕ} {T : Table} {t : Tree} (h : Keepable K R O
             long = ap length e ∙ pair_long K₁ c _ ∙ pair_long K' j _ ∙ v.long;
             fields = λ k i x d. ap (λ M. field 4 k M i) e ∙ pair_fields K₁ c _ k i x d ∙ kept k i x d ∙ v.fields k i x d;
             others =
-                λ i x y. ap (λ M. size M i) e ∙ pair_brackets onRight o r q i (λ z. x (sym (kinds₁ i) ∙ z)) (λ z. y (sym (kinds₁ i) ∙ z))
-                ∙ pair_brackets onLeft o l (left_at p) i (λ z. x (sym (kinds i) ∙ z)) (λ z. y (sym (kinds i) ∙ z)) ∙ v.others i x y;
-            small = λ i. rw e (omega (arith, pair_small K₁ c (stays U onRight o r) i, pair_small K' j (stays U onLeft o l) i, v.small i));
+                λ i x y. ap (λ M. size M i) e ∙ pair_brackets on_right o r q i (λ z. x (sym (kinds₁ i) ∙ z)) (λ z. y (sym (kinds₁ i) ∙ z))
+                ∙ pair_brackets on_left o l (left_at p) i (λ z. x (sym (kinds i) ∙ z)) (λ z. y (sym (kinds i) ∙ z)) ∙ v.others i x y;
+            small = λ i. rw e (omega (arith, pair_small K₁ c (stays U on_right o r) i, pair_small K' j (stays U on_left o l) i, v.small i));
             going = a.going;
           },
         )

@@ -8,7 +8,7 @@ use native.Mathlib.Omega.{arith}
 use lib.ListN.{length}
 use Rattle.grammar.specs.Bytes.{Bytes}
 use Rattle.grammar.specs.Operator.{Role, Table}
-use Rattle.grammar.specs.SpanTree.{Position, onLeft, onRight, role_over}
+use Rattle.grammar.specs.SpanTree.{Position, on_left, on_right, role_over}
 use Rattle.grammar.specs.Tree.{Tree, nothing, leaf, bracket, block, node, flat, span_tree}
 use Rattle.grammar.proofs.Logic.{clash}
 use Rattle.grammar.proofs.AdmittingRole.{AdmittingRole, admitting_role, admitting_root}
@@ -105,16 +105,16 @@ module _ {K R O : List ℕ} {i : ℕ} {T : Table} {j : ℕ} {l : Tree} {m : Byte
           fit = fits;
         })
 
-    pub left_pair : {a : Bool} → a ≡ stays T onLeft (some own_role) l → a ≡ true → PairIn K x
-    left_pair p z = pair_in T onLeft (some own_role) l (left_at h.tree) (sym p ∙ z) x noted_left
+    pub left_pair : {a : Bool} → a ≡ stays T on_left (some own_role) l → a ≡ true → PairIn K x
+    left_pair p z = pair_in T on_left (some own_role) l (left_at h.tree) (sym p ∙ z) x noted_left
 
-    module _ {a b : Bool} (p : a ≡ stays T onLeft (some own_role) l) (q : b ≡ stays T onRight (some own_role) r) where
+    module _ {a b : Bool} (p : a ≡ stays T on_left (some own_role) l) (q : b ≡ stays T on_right (some own_role) r) where
       pub right_pair : {K₁ : List ℕ} → K₁ ≡ kept_pair a K (x - 1) → b ≡ true → PairIn K₁ y
-      right_pair k z = rw k (pair_still a (x - 1) (pair_in T onRight (some own_role) r (right_at h.tree) (sym q ∙ z) y noted_right))
+      right_pair k z = rw k (pair_still a (x - 1) (pair_in T on_right (some own_role) r (right_at h.tree) (sym q ∙ z) y noted_right))
 
       pub pairs_kept : {K₁ K₂ : List ℕ} → K₁ ≡ kept_pair a K (x - 1) → K₂ ≡ kept_pair b K₁ (y - 1) → K₂ ≡ kept_beside K T j l m r
       unfolding kept_beside
       pairs_kept k k' =
           rw its_role
-          (k' ∙ ap (λ M. kept_pair b M (y - 1)) (k ∙ pair_place T onLeft (some own_role) K j l a x p noted_left)
-          ∙ pair_place T onRight (some own_role) _ (suc (j + length (flat l))) r b y q noted_right)
+          (k' ∙ ap (λ M. kept_pair b M (y - 1)) (k ∙ pair_place T on_left (some own_role) K j l a x p noted_left)
+          ∙ pair_place T on_right (some own_role) _ (suc (j + length (flat l))) r b y q noted_right)

@@ -9,7 +9,7 @@ use lib.ListN.{length, take, drop, length-append}
 use lib.Seq.{take_at}
 use Rattle.grammar.specs.Bytes.{Bytes}
 use Rattle.grammar.specs.Token.{Token, atom, structure, symbol, number, quoted, doubled, undoubled, spelling, is_symbol, is_token}
-use Rattle.grammar.specs.Token.{opening, closing, semicolon, keywordLet, keywordIn, keywordEnd, structure_number}
+use Rattle.grammar.specs.Token.{opening, closing, semicolon, keyword_let, keyword_in, keyword_end, structure_number}
 use Rattle.grammar.specs.Operator.{Table, in_force}
 use Rattle.grammar.specs.Scan.{Placed}
 use Rattle.grammar.specs.Tree.{Tree}
@@ -53,9 +53,9 @@ bracket_size (atom (quoted c)) l m = absurd (omega arith)
 bracket_size (structure opening) l m = refl
 bracket_size (structure closing) l m = refl
 bracket_size (structure semicolon) l m = absurd (omega arith)
-bracket_size (structure keywordLet) l m = absurd (omega arith)
-bracket_size (structure keywordIn) l m = absurd (omega arith)
-bracket_size (structure keywordEnd) l m = absurd (omega arith)
+bracket_size (structure keyword_let) l m = absurd (omega arith)
+bracket_size (structure keyword_in) l m = absurd (omega arith)
+bracket_size (structure keyword_end) l m = absurd (omega arith)
 
 -- A quoted name, by its kind and its bytes as written.
 quoted_token : (k : ℕ) (w c : Bytes) → k ≡ 3 → w ≡ doubled c → token_of k w ≡ atom (quoted c)

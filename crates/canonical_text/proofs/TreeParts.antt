@@ -20,9 +20,9 @@ use Rattle.grammar.specs.Token.{
   opening,
   closing,
   semicolon,
-  keywordLet,
-  keywordIn,
-  keywordEnd,
+  keyword_let,
+  keyword_in,
+  keyword_end,
   doubled,
   spelling,
   is_symbol,
@@ -33,7 +33,7 @@ use Rattle.grammar.specs.Operator.{Role, Table, in_force}
 use Rattle.grammar.specs.Declaration.{Declaration, declares, clears, declare_all, declaration_tokens, all_tokens, fixity_word, associativity_word, plain_word}
 use Rattle.grammar.specs.Scan.{Placed}
 use Rattle.grammar.specs.Coded.{kind_of}
-use Rattle.grammar.specs.SpanTree.{Position, onLeft, onRight, root, role_over, is_operand, is_operand_atom}
+use Rattle.grammar.specs.SpanTree.{Position, on_left, on_right, root, role_over, is_operand, is_operand_atom}
 use Rattle.grammar.specs.Tree.{Tree, nothing, leaf, bracket, block, node, flat, span_tree}
 use Rattle.grammar.specs.Canonical.{without_zeros, or_zero, strip, strip_declaration, written_name, written_atom, fitted, canonical, refuses}
 use Rattle.grammar.proofs.Logic.{and_left}
@@ -255,20 +255,20 @@ module _ {text : Bytes} {ps : List Placed} {K : List ℕ} (v : Stored text ps K)
         let a = length (flat t) in
         let c = suc (i + d) in
         let n = block_length ds t in
-        let let_at = keyword_kept i (omega (arith, h.within)) keywordLet h.stands.0 (omega arith) in
-        let in-at = keyword_kept c (omega (arith, h.within)) keywordIn h.stands.2 (omega arith) in
-        let end-at : parts f (suc (i + suc (d + a))) 1 ≡ spelling (structure keywordEnd) ∷ [] =
+        let let_at = keyword_kept i (omega (arith, h.within)) keyword_let h.stands.0 (omega arith) in
+        let in-at = keyword_kept c (omega (arith, h.within)) keyword_in h.stands.2 (omega arith) in
+        let end_at : parts f (suc (i + suc (d + a))) 1 ≡ spelling (structure keyword_end) ∷ [] =
         let q : suc (i + suc (d + a)) ≡ suc (c + a) = omega arith in
-        rw q (keyword_kept (suc (c + a)) (omega (arith, h.within)) keywordEnd h.stands.3 (omega arith)) in
+        rw q (keyword_kept (suc (c + a)) (omega (arith, h.within)) keyword_end h.stands.3 (omega arith)) in
         let tokens : tokens_in text K (suc i) d ≡ all_tokens ds = ap (tokens_in text K (suc i)) (omega arith) ∙ s.0 in
         let declared : parts f (suc i) d ≡ map spelling (all_tokens (map strip_declaration ds)) =
         stretch_kept (suc i) (all_tokens ds) (omega (arith, h.within)) tokens (declare_tokens ds) ∙ ap (map spelling) (declared-written ds) in
         let e : suc i + d ≡ c = omega arith in
-        let inner : parts f (suc i) (suc (d + a)) ≡ map spelling (all_tokens (map strip_declaration ds) ++ structure keywordIn ∷ flat (canonical (declare_all T ds) t)) =
-        around f (suc i) d a ∙ rw (e, declared, in-at, w) (sym (spellings (all_tokens (map strip_declaration ds)) (structure keywordIn ∷ flat (canonical (declare_all T ds) t)))) in
-        ap (parts f i) n ∙ within f i (suc (d + a)) ∙ rw (let_at, end-at, inner)
-        (ap (◌∷◌ (spelling (structure keywordLet)))
-        (sym (spellings (all_tokens (map strip_declaration ds) ++ structure keywordIn ∷ flat (canonical (declare_all T ds) t)) (structure keywordEnd ∷ []))))
+        let inner : parts f (suc i) (suc (d + a)) ≡ map spelling (all_tokens (map strip_declaration ds) ++ structure keyword_in ∷ flat (canonical (declare_all T ds) t)) =
+        around f (suc i) d a ∙ rw (e, declared, in-at, w) (sym (spellings (all_tokens (map strip_declaration ds)) (structure keyword_in ∷ flat (canonical (declare_all T ds) t)))) in
+        ap (parts f i) n ∙ within f i (suc (d + a)) ∙ rw (let_at, end_at, inner)
+        (ap (◌∷◌ (spelling (structure keyword_let)))
+        (sym (spellings (all_tokens (map strip_declaration ds) ++ structure keyword_in ∷ flat (canonical (declare_all T ds) t)) (structure keyword_end ∷ []))))
 
     -- An operand with the bracket pair that it has in the canonical tree.
     operand_parts :
@@ -279,18 +279,18 @@ module _ {text : Bytes} {ps : List Placed} {K : List ℕ} (v : Stored text ps K)
 
     node-parts :
         (T : Table) (i : ℕ) (l : Tree) (m : Bytes) (r : Tree) → TreeAt K R O (length ps) T i (node l m r) → Spelled text K i (node l m r)
-        → Parts T i (stays T onLeft (role_over T (span_tree l) m (span_tree r)) l) l
-        → Parts T (suc (i + length (flat l))) (stays T onRight (role_over T (span_tree l) m (span_tree r)) r) r → Parts T i false (node l m r)
+        → Parts T i (stays T on_left (role_over T (span_tree l) m (span_tree r)) l) l
+        → Parts T (suc (i + length (flat l))) (stays T on_right (role_over T (span_tree l) m (span_tree r)) r) r → Parts T i false (node l m r)
     unfolding Parts canonical wrap_if flat kind_of
     node-parts T i l m r h s x y =
         let a = i + length (flat l) in
         let n = node-length l m r in
         let o = role_over T (span_tree l) m (span_tree r) in
-        let p = operand_parts T onLeft o i l (left_at h) (admits-left T l m r h.admitted) x in
-        let q = operand_parts T onRight o (suc a) r (right_at h) (admits-right T l m r h.admitted) y in
+        let p = operand_parts T on_left o i l (left_at h) (admits-left T l m r h.admitted) x in
+        let q = operand_parts T on_right o (suc a) r (right_at h) (admits-right T l m r h.admitted) y in
         let e = token_kept a (omega (arith, h.within)) (atom (symbol m)) s.0 (λ z. omega arith) (λ u w. omega arith) in
         ap (parts f i) n ∙ around f i (length (flat l)) (length (flat r)) ∙ rw (p, e, q)
-        (sym (spellings (flat (fitted T onLeft o (canonical T l))) (atom (symbol m) ∷ flat (fitted T onRight o (canonical T r)))))
+        (sym (spellings (flat (fitted T on_left o (canonical T l))) (atom (symbol m) ∷ flat (fitted T on_right o (canonical T r)))))
 
     tree_parts :
         (T : Table) (i : ℕ) (b : Bool) (t : Tree) → Fits b t → TreeAt K R O (length ps) T i t → Spelled text K i t → Sized K₁ T i b t → Parts T i b t
@@ -306,8 +306,8 @@ module _ {text : Bytes} {ps : List Placed} {K : List ℕ} (v : Stored text ps K)
         let o = role_over T (span_tree l) m (span_tree r) in
         rw g
         (node-parts T i l m r h s
-        (tree_parts T i (stays T onLeft o l) l (fits_stays T onLeft o l) (left_at h) s.1 z.0)
-        (tree_parts T (suc (i + length (flat l))) (stays T onRight o r) r (fits_stays T onRight o r) (right_at h) s.2 z.1))
+        (tree_parts T i (stays T on_left o l) l (fits_stays T on_left o l) (left_at h) s.1 z.0)
+        (tree_parts T (suc (i + length (flat l))) (stays T on_right o r) r (fits_stays T on_right o r) (right_at h) s.2 z.1))
 
     -- The tree of the whole text.
     pub whole_parts :

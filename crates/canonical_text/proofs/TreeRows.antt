@@ -8,7 +8,7 @@ use native.Mathlib.Omega.{arith}
 use lib.ListN.{length, length-append}
 use borrow.Author.Tests.{eqb-true, eqb-false}
 use Rattle.grammar.specs.Bytes.{Bytes}
-use Rattle.grammar.specs.Token.{Atom, atom, structure, symbol, closing, keywordIn, keywordEnd}
+use Rattle.grammar.specs.Token.{Atom, atom, structure, symbol, closing, keyword_in, keyword_end}
 use Rattle.grammar.specs.Operator.{Table, role}
 use Rattle.grammar.specs.Declaration.{Declaration, declare_all, all_tokens}
 use Rattle.grammar.specs.SpanTree.{present, fixity, root, role_over, is_operand, Admitted}
@@ -37,8 +37,8 @@ unfolding flat
 block_length ds t =
     omega (
       arith,
-      length-append (all_tokens ds ++ structure keywordIn ∷ flat t) (structure keywordEnd ∷ []),
-      length-append (all_tokens ds) (structure keywordIn ∷ flat t),
+      length-append (all_tokens ds ++ structure keyword_in ∷ flat t) (structure keyword_end ∷ []),
+      length-append (all_tokens ds) (structure keyword_in ∷ flat t),
     )
 
 pub node-length : (l : Tree) (m : Bytes) (r : Tree) → length (flat (node l m r)) ≡ suc (length (flat l) + length (flat r))

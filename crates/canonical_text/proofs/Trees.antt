@@ -5,7 +5,7 @@ use mathlib.Core.Bool.{Bool, true, false}
 use mathlib.Core.Option.{Option}
 use Rattle.grammar.specs.Bytes.{Bytes}
 use Rattle.grammar.specs.Operator.{Role, Table}
-use Rattle.grammar.specs.SpanTree.{present, fixity, root, Position, onLeft, onRight, Admitted, role_over}
+use Rattle.grammar.specs.SpanTree.{present, fixity, root, Position, on_left, on_right, Admitted, role_over}
 use Rattle.grammar.specs.Tree.{Tree, nothing, leaf, bracket, block, node, span_tree, InnerOk}
 use Rattle.grammar.specs.Canonical.{fitted, canonical, refuses}
 use Rattle.grammar.proofs.Logic.{clash}
@@ -19,12 +19,12 @@ wrap_if false t = t
 
 -- What the operator of an admitted tree refuses of its operands: neither.
 pub admits-left : (T : Table) (l : Tree) (m : Bytes) (r : Tree) → Admitted T (span_tree (node l m r))
-    → refuses onLeft (role_over T (span_tree l) m (span_tree r)) (root T (span_tree l)) ≡ false
+    → refuses on_left (role_over T (span_tree l) m (span_tree r)) (root T (span_tree l)) ≡ false
 unfolding span_tree
 admits-left T l m r a = (both_admitted _ _ _ a.2).1
 
 pub admits-right : (T : Table) (l : Tree) (m : Bytes) (r : Tree) → Admitted T (span_tree (node l m r))
-    → refuses onRight (role_over T (span_tree l) m (span_tree r)) (root T (span_tree r)) ≡ false
+    → refuses on_right (role_over T (span_tree l) m (span_tree r)) (root T (span_tree r)) ≡ false
 unfolding span_tree
 admits-right T l m r a = (both_admitted _ _ _ a.2).2
 
@@ -59,7 +59,7 @@ root_kept :
     → root T (span_tree (canonical T (node l m r))) ≡ root T (span_tree (node l m r))
 unfolding canonical span_tree root role_over fixity
 root_kept T l m r i a =
-    rw (operand_there T onLeft _ l i.0 (admits-left T l m r a), operand_there T onRight _ r i.1 (admits-right T l m r a))
+    rw (operand_there T on_left _ l i.0 (admits-left T l m r a), operand_there T on_right _ r i.1 (admits-right T l m r a))
 
 -- The root of the canonical tree is that of what the brackets hold.
 pub root-held : (T : Table) (t : Tree) → InnerOk T t → Admitted T (span_tree t) → root T (span_tree (canonical T t)) ≡ root T (span_tree (held t))

@@ -6,7 +6,7 @@ use Rattle.grammar.specs.Bytes.{Bytes}
 use Rattle.grammar.specs.Token.{symbol}
 use Rattle.grammar.specs.Operator.{Role, Table}
 use Rattle.grammar.specs.Declaration.{declare_all, all_tokens}
-use Rattle.grammar.specs.SpanTree.{Position, onLeft, onRight, root, role_over, Admitted}
+use Rattle.grammar.specs.SpanTree.{Position, on_left, on_right, root, role_over, Admitted}
 use Rattle.grammar.specs.Tree.{Tree, nothing, leaf, bracket, block, node, flat, span_tree, InnerOk}
 use Rattle.grammar.specs.Canonical.{refuses}
 use Rattle.rows.specs.Fields.{kind, closer, size, arrival, field, store, Within, Holds}
@@ -55,8 +55,8 @@ pub record TreeAt (K R O : List ℕ) (n : ℕ) (T : Table) (i : ℕ) (t : Tree) 
   pub within : i + length (flat t) ≤ n
 
 abbrev pub position_of : Bool → Position
-position_of true = onRight
-position_of false = onLeft
+position_of true = on_right
+position_of false = on_left
 
 -- An operand: a tree at token `j` whose root is noted, of an operator whose role has that number.
 pub record OperandAt (K R O : List ℕ) (role operand : ℕ) (T : Table) (j : ℕ) (t : Tree) (q : Role) : Type 0 where
@@ -81,7 +81,7 @@ kept_pair false K i = K
 unfoldable pub kept_beside : List ℕ → Table → ℕ → Tree → Bytes → Tree → List ℕ
 kept_beside K T j l m r =
     let o = role_over T (span_tree l) m (span_tree r) in
-    kept_pair (stays T onRight o r) (kept_pair (stays T onLeft o l) K j) (suc (j + length (flat l)))
+    kept_pair (stays T on_right o r) (kept_pair (stays T on_left o l) K j) (suc (j + length (flat l)))
 
 -- The operator at token `a` with its operands.
 pub record OperatorAt (K R O : List ℕ) (a : ℕ) (T : Table) (j : ℕ) (l : Tree) (m : Bytes) (r : Tree) : Type 0 where
@@ -101,7 +101,7 @@ Sized K T i b (bracket t) = (size K i ≡ size_if b) × (size K (suc (i + length
 Sized K T i b (block ds t) = Sized K (declare_all T ds) (suc (suc (i + length (all_tokens ds)))) false t
 Sized K T i b (node l m r) =
     let o = role_over T (span_tree l) m (span_tree r) in
-    Sized K T i (stays T onLeft o l) l × Sized K T (suc (i + length (flat l))) (stays T onRight o r) r
+    Sized K T i (stays T on_left o l) l × Sized K T (suc (i + length (flat l))) (stays T on_right o r) r
 
 -- The tree of `n` tokens, no bracket of which has a byte yet.
 pub record Keepable (K R O : List ℕ) (n : ℕ) (T : Table) (t : Tree) : Type 0 where

@@ -154,7 +154,7 @@ module _ {text : Bytes} {K R O : List ℕ} {n : ℕ} {nested : Bool} (v : Classi
             let reads : read_text text ≡ passed (record { tokens = ps; tree = t }) = reads_whole ∙ ap (read_spans text ps) g in
             let z : Answer.Trees (count t) c.0.0 ≡ Answer.Trees k at = sym c.0.1 ∙ e in
             let x : count t ≡ k = cc in
-            let some-tree : 0 < length (tokens_of ps) = omega (arith, some_placed, length_tokens ps) in
+            let some_tree : 0 < length (tokens_of ps) = omega (arith, some_placed, length_tokens ps) in
             let y : c.0.0 ≡ at = cc in
             rw reads
             (passes (Passed n k at) (record { tokens = ps; tree = t }) ps some_placed (
@@ -166,7 +166,7 @@ module _ {text : Bytes} {K R O : List ℕ} {n : ℕ} {nested : Bool} (v : Classi
                 roles = subst (λ j. Holds 4 R j) v.matched.scanned.counted v.matched.scanned.roles;
                 roots = subst (λ j. Holds 2 O' j) v.matched.scanned.counted (v.matched.scanned.roots.0, omega (arith, v.matched.scanned.roots.1, h.long));
                 agrees = subst (λ j. Agrees text K R start_table 0 j) v.matched.scanned.counted v.agrees;
-                is_tree = checked_tree (is_tree_lem some-tree (reading_of_tokens text (record { tokens = ps; tree = t }) reads).1);
+                is_tree = checked_tree (is_tree_lem some_tree (reading_of_tokens text (record { tokens = ps; tree = t }) reads).1);
                 rooted = c.1;
               },
             ))

@@ -272,13 +272,13 @@ module _ {text : Bytes} {K R O : List ℕ} {n : ℕ} {nested : Bool} (m : Matche
         go : (o : Outcome (Unit {0})) → blocks ≡ o → Resolves text K R' start_table 0 n o r → Checking text K R' B (Refused k (offset_in text K n i))
         go (refused x p) b v =
             let z : Resolve.Refused x p ≡ Resolve.Refused k i = sym v ∙ e in
-            let x-k : x ≡ k = cc in
-            let p-i : p ≡ i = cc in
+            let x_k : x ≡ k = cc in
+            let p_i : p ≡ i = cc in
             let l = blocks_place (suc n) start_table (tokens_of own) x p m.nests b in
             let o = offset_in_lem m.scanned i (omega (arith, m.scanned.counted, length_tokens own)) in
             let number = blocks_number (suc n) start_table 0 (tokens_of own) x p b in
-            let other : k ≡ 11 → ⊥ = λ d. ⊎_elim (λ l. omega (arith, x-k)) (λ l. omega (arith, x-k)) number in
-            refusal text K R' B k (offset_in text K n i) other (blocks_reads x p b ∙ cc (o, x-k, p-i))
+            let other : k ≡ 11 → ⊥ = λ d. ⊎_elim (λ l. omega (arith, x_k)) (λ l. omega (arith, x_k)) number in
+            refusal text K R' B k (offset_in text K n i) other (blocks_reads x p b ∙ cc (o, x_k, p_i))
         go (passed u) b v = let z = sym v.0 ∙ e in impossible cc
 
     pub classified : r ≡ Resolve.Passed → Classified text K R' O n nested

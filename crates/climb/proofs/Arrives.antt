@@ -10,7 +10,7 @@ use borrow.Author.Tests.{eq-eqb, ne_eqb}
 use Rattle.grammar.specs.Bytes.{Bytes}
 use Rattle.grammar.specs.Token.{symbol}
 use Rattle.grammar.specs.Operator.{Prefix, Infix, Postfix, right, Role, Table, role, is_some}
-use Rattle.grammar.specs.SpanTree.{SpanTree, missing, present, fixity_by, root, root_precedence, is_right, onLeft, onRight, admits}
+use Rattle.grammar.specs.SpanTree.{SpanTree, missing, present, fixity_by, root, root_precedence, is_right, on_left, on_right, admits}
 use Rattle.grammar.specs.Climb.{first_role, left_role, Stack, empty, waiting, taking, takes, admits_prefix, bears, fits_left, fits_below, arrives}
 use Rattle.grammar.proofs.StackItems.{absent_missing}
 use Rattle.grammar.proofs.ClimbInvariant.{keeps_admits}
@@ -50,7 +50,7 @@ module _ (R : List ℕ) (i l q k : ℕ) where
       go (some c) = refl
 
   pub prefix_by :
-      (b : Bool) → l ≡ 0 → (prefix R i ≡ 0 → ⊥) → (k ≡ 0 → ⊥) → ((r : Role) → role_of k ≡ some r → b ≡ admits onRight r (role_of (prefix R i)))
+      (b : Bool) → l ≡ 0 → (prefix R i ≡ 0 → ⊥) → (k ≡ 0 → ⊥) → ((r : Role) → role_of k ≡ some r → b ≡ admits on_right r (role_of (prefix R i)))
       → b ≡ arrives_at R i l q k
   unfolding fits_prefix admits_prefix
   prefix_by b e f g h =
@@ -58,12 +58,12 @@ module _ (R : List ℕ) (i l q k : ℕ) where
     where
       go : (c r : Role) → role_of (prefix R i) ≡ some c → role_of k ≡ some r → b ≡ arrives_at R i l q k
       go c r d m =
-          let x : b ≡ admits onRight r (some c) = rw d at (h r m) in
-          let y : fits_prefix (role_of (prefix R i)) (role_of k) ≡ admits onRight r (some c) = rw (d, m) in
+          let x : b ≡ admits on_right r (some c) = rw d at (h r m) in
+          let y : fits_prefix (role_of (prefix R i)) (role_of k) ≡ admits on_right r (some c) = rw (d, m) in
           x ∙ sym (at_front (eq-eqb l 0 e) ∙ y)
 
   pub infix_by :
-      (b : Bool) → (l ≡ 0 → ⊥) → (infixed R i ≡ 0 → ⊥) → ((r : Role) → role_of (infixed R i) ≡ some r → b ≡ admits onLeft r (role_of q))
+      (b : Bool) → (l ≡ 0 → ⊥) → (infixed R i ≡ 0 → ⊥) → ((r : Role) → role_of (infixed R i) ≡ some r → b ≡ admits on_left r (role_of q))
       → b ≡ arrives_at R i l q k
   unfolding fits_left first_role
   infix_by b e f h = some_role (infixed R i) f (λ r d. h r d ∙ sym (at_behind (ne_eqb l 0 e) ∙ rw d))
@@ -74,7 +74,7 @@ module _ (R : List ℕ) (i l q k : ℕ) where
 
   pub postfix_by :
       (b : Bool) → (l ≡ 0 → ⊥) → infixed R i ≡ 0 → (postfix R i ≡ 0 → ⊥)
-      → ((r : Role) → role_of (postfix R i) ≡ some r → b ≡ admits onLeft r (role_of q)) → b ≡ arrives_at R i l q k
+      → ((r : Role) → role_of (postfix R i) ≡ some r → b ≡ admits on_left r (role_of q)) → b ≡ arrives_at R i l q k
   unfolding fits_left first_role
   postfix_by b e f g h = some_role (postfix R i) g (λ r d. h r d ∙ sym (at_behind (ne_eqb l 0 e) ∙ rw (no_role (infixed R i) f, d)))
 
@@ -141,7 +141,7 @@ module _ (T : Table) (bounded : Bounded T) where
       rw noted.postfixed (code-role (role T m Postfix) (bounded m Postfix)),
     )
 
-    admits-widest : (c : Role) → Fit (some c) → admits onRight (record { precedence = 1200; associativity = right }) (some c) ≡ true
+    admits-widest : (c : Role) → Fit (some c) → admits on_right (record { precedence = 1200; associativity = right }) (some c) ≡ true
     unfolding root_precedence is_right
     admits-widest c f = keeps_admits (record { precedence = 1200; associativity = right }) (some c) (f.1, λ e. refl)
 

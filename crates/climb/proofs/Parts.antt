@@ -8,7 +8,7 @@ use Prim.Native.Nat.{ℕ, suc, ◌+◌, ◌-◌, ◌≤◌, ◌<◌}
 use native.Mathlib.Omega.{arith}
 use lib.ListN.{length, length-append}
 use Rattle.grammar.specs.Bytes.{Bytes}
-use Rattle.grammar.specs.Token.{Atom, Token, structure, closing, keywordIn, keywordEnd}
+use Rattle.grammar.specs.Token.{Atom, Token, structure, closing, keyword_in, keyword_end}
 use Rattle.grammar.specs.Operator.{Table}
 use Rattle.grammar.specs.Declaration.{declarations, all_tokens}
 use Rattle.grammar.specs.Span.{Item, single, pair, scope, item_tokens, all_item_tokens, items}
@@ -165,8 +165,8 @@ module _ (text : Bytes) (K R : List ℕ) where
             omega (
               arith,
               ap length t,
-              length-append (all_tokens (declarations ds) ++ structure keywordIn ∷ flat u) (structure keywordEnd ∷ []),
-              length-append (all_tokens (declarations ds)) (structure keywordIn ∷ flat u),
+              length-append (all_tokens (declarations ds) ++ structure keyword_in ∷ flat u) (structure keyword_end ∷ []),
+              length-append (all_tokens (declarations ds)) (structure keyword_in ∷ flat u),
             );
       }
     where

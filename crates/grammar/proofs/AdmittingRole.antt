@@ -18,8 +18,8 @@ use Rattle.grammar.specs.SpanTree.{
   root,
   root_precedence,
   Position,
-  onLeft,
-  onRight,
+  on_left,
+  on_right,
   admits_equal,
   admits,
   admits_both,
@@ -33,8 +33,8 @@ pub record AdmittingRole (T : Table) (l : SpanTree) (m : Bytes) (r : SpanTree) :
   pub form : Fixity
   pub formed : fixity l r ≡ some form
   pub known : role T m form ≡ some own
-  pub left_fits : admits onLeft own (root T l) ≡ true
-  pub right_fits : admits onRight own (root T r) ≡ true
+  pub left_fits : admits on_left own (root T l) ≡ true
+  pub right_fits : admits on_right own (root T r) ≡ true
 
 pub admitting_role : (T : Table) (l : SpanTree) (m : Bytes) (r : SpanTree) → Admitted T (apply l m r) → AdmittingRole T l m r
 unfolding admits_both role_over role_of_fixity
@@ -49,8 +49,8 @@ admitting_role T l m r a = go (fixity l r) refl a.2
           form = f;
           formed = g;
           known = e;
-          left_fits = and_left (admits onLeft q (root T l)) (admits onRight q (root T r)) h;
-          right_fits = and_right (admits onLeft q (root T l)) (admits onRight q (root T r)) h;
+          left_fits = and_left (admits on_left q (root T l)) (admits on_right q (root T r)) h;
+          right_fits = and_right (admits on_left q (root T l)) (admits on_right q (root T r)) h;
         }
 
     go : (f : Option Fixity) → fixity l r ≡ f → admits_both (role_of_fixity T m f) (root T l) (root T r) ≡ true → AdmittingRole T l m r

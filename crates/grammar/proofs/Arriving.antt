@@ -5,7 +5,7 @@ use lib.Dec.{ltb, eqb}
 use mathlib.Core.Option.{Option, none, some}
 use Rattle.grammar.specs.Bytes.{Bytes}
 use Rattle.grammar.specs.Operator.{Prefix, Infix, Postfix, Associativity, left, right, non, Role, Table, role, Conditions, Permitted, apart, conditions}
-use Rattle.grammar.specs.SpanTree.{fixity_by, role_of_fixity, is_left, root_precedence, right_root, onLeft, admits_equal, admits}
+use Rattle.grammar.specs.SpanTree.{fixity_by, role_of_fixity, is_left, root_precedence, right_root, on_left, admits_equal, admits}
 use Rattle.grammar.specs.Climb.{first_role, left_role}
 use Rattle.grammar.proofs.Logic.{impossible}
 use Rattle.grammar.proofs.Unambiguous.{Unambiguous}
@@ -37,7 +37,7 @@ pub record Alike (q d : Role) : Type 0 where
   pub precedence : q.precedence ≡ d.precedence
   pub side : is_left q.associativity ≡ is_left d.associativity
 
-pub admits_alike : (q d : Role) (o : Option Role) → Alike q d → admits onLeft q o ≡ admits onLeft d o
+pub admits_alike : (q d : Role) (o : Option Role) → Alike q d → admits on_left q o ≡ admits on_left d o
 unfolding admits admits_equal
 admits_alike q d o h =
     ap₂ (λ p left. ltb (root_precedence o) p || (eqb (root_precedence o) p && (left && not (right_root o)))) h.precedence h.side

@@ -21,7 +21,7 @@ use Rattle.grammar.specs.Token.{
   structure,
   symbol,
   opening,
-  keywordIn,
+  keyword_in,
   spelling,
   is_keyword,
   is_word,
@@ -144,9 +144,9 @@ module _ (text : Bytes) where
     unfolding spelling
     behind_opening h = behind_bare (structure opening) (40 ∷ []) refl (omega arith, tt) h
 
-    pub behind_in : Here text o i (structure keywordIn) → Unquoted (byte_before text (o (suc i)))
+    pub behind_in : Here text o i (structure keyword_in) → Unquoted (byte_before text (o (suc i)))
     unfolding spelling
-    behind_in h = behind_bare (structure keywordIn) (105 ∷ 110 ∷ []) refl (omega arith, (omega arith, tt)) h
+    behind_in h = behind_bare (structure keyword_in) (105 ∷ 110 ∷ []) refl (omega arith, (omega arith, tt)) h
 
 -- The byte before the first token of a text.
 pub before_first :

@@ -8,7 +8,7 @@ use Prim.Native.Nat.{ℕ, zero, suc, ◌+◌, ◌≤◌, ◌<◌}
 use native.Mathlib.Omega.{arith}
 use lib.ListN.{length, length-append}
 use Rattle.grammar.specs.Bytes.{All}
-use Rattle.grammar.specs.Token.{Atom, Token, structure, closing, keywordIn, keywordEnd}
+use Rattle.grammar.specs.Token.{Atom, Token, structure, closing, keyword_in, keyword_end}
 use Rattle.grammar.specs.Outcome.{Outcome, refused, passed, and_then}
 use Rattle.grammar.specs.Operator.{Table, Distinct}
 use Rattle.grammar.specs.Declaration.{Declaration, declare_all, declarations, all_tokens, start_table, enter}
@@ -70,9 +70,9 @@ record Faulty (s : Span) (j n k : ℕ) : Type 0 where
   number : j ≡ number_behind s before
   fault : DeclarationFault current s.table part n k
 
-number_behind : {i : ℕ} (s : Span) (xs : List Item) (x : Item) → i ≡ number_behind s xs → i + length (item_tokens x) ≡ number_behind s (xs ++ x ∷ [])
+number_behind_lem : {i : ℕ} (s : Span) (xs : List Item) (x : Item) → i ≡ number_behind s xs → i + length (item_tokens x) ≡ number_behind s (xs ++ x ∷ [])
 unfolding all_item_tokens
-number_behind s xs x e =
+number_behind_lem s xs x e =
     omega (arith, ap length (append_tokens xs (x ∷ [])), length-append (all_item_tokens xs) (item_tokens x ++ []), length-append (item_tokens x) [])
 
 fault_span :
@@ -88,7 +88,7 @@ fault_span s xs t e c (in_body {us = us} {xs = ys} {ks} es d m f) =
     let (r, h, g) = fault_span (body_span s xs es ks) [] (ap (λ U. declare_all U es) t) (omega (arith, ap length d)) refl f in
     (r, SpanIn.in_body xs es us ys ks (rw d at c) m h, g)
 fault_span s xs t e c (later {x = x} {xs = ys} f) =
-    fault_span s (xs ++ x ∷ []) t (number_behind s xs x e) (c ∙ sym (append_assoc xs (x ∷ []) ys)) f
+    fault_span s (xs ++ x ∷ []) t (number_behind_lem s xs x e) (c ∙ sym (append_assoc xs (x ∷ []) ys)) f
 
 -- The tokens of a bracket pair and of a block.
 pair_length : (us : List Token) → length (item_tokens (pair us)) ≡ 2 + length us
@@ -98,7 +98,7 @@ pair_length us = omega (arith, length-append us (structure closing ∷ []))
 scope_length : (ds us : List Token) → length (item_tokens (scope ds us)) ≡ 3 + (length ds + length us)
 unfolding item_tokens
 scope_length ds us =
-    omega (arith, length-append (ds ++ structure keywordIn ∷ us) (structure keywordEnd ∷ []), length-append ds (structure keywordIn ∷ us))
+    omega (arith, length-append (ds ++ structure keyword_in ∷ us) (structure keyword_end ∷ []), length-append ds (structure keyword_in ∷ us))
 
 -- The `let` of a block among items is one of their tokens.
 within : {T : Table} {i : ℕ} {is : List Item} {j n k : ℕ} → FaultIn T i is j n k → (i ≤ j) × (j < i + length (all_item_tokens is))

@@ -10,7 +10,7 @@ use Rattle.grammar.specs.Bytes.{Bytes}
 use Rattle.grammar.specs.Token.{atom, symbol, number, quoted, is_number, longest_number, is_token, are_tokens, Atom}
 use Rattle.grammar.specs.Operator.{Role, Table}
 use Rattle.grammar.specs.Declaration.{Declaration, declares, clears, value, declare_all, declaration_tokens, all_tokens}
-use Rattle.grammar.specs.SpanTree.{present, fixity_by, fixity, Position, onLeft, onRight, role_over}
+use Rattle.grammar.specs.SpanTree.{present, fixity_by, fixity, Position, on_left, on_right, role_over}
 use Rattle.grammar.specs.Tree.{Tree, nothing, leaf, bracket, block, node, flat, span_tree, InnerOk}
 use Rattle.grammar.specs.Abstract.{Content, name, numeral, content, change, AbstractTree, absent, one, under, operation, abstract}
 use Rattle.grammar.specs.Canonical.{strip, strip_declaration, written_name, written_atom, fitted, canonical}
@@ -39,8 +39,8 @@ canonical_agrees T (bracket t) = canonical_agrees T t
 canonical_agrees T (block ds t) = ap₂ under (change-strip ds) (canonical_agrees (declare_all T ds) t)
 canonical_agrees T (node l m r) =
     ap₂ (λ a b. operation a m b)
-    (fitted_agrees T onLeft _ (canonical T l) ∙ canonical_agrees T l)
-    (fitted_agrees T onRight _ (canonical T r) ∙ canonical_agrees T r)
+    (fitted_agrees T on_left _ (canonical T l) ∙ canonical_agrees T l)
+    (fitted_agrees T on_right _ (canonical T r) ∙ canonical_agrees T r)
 
 -- Leaves are names, and numbers written in digits, as in declarations; and no bracket is empty: an empty one, taken out, would
 -- leave its operator another fixity.

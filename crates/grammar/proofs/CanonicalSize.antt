@@ -12,7 +12,7 @@ use Rattle.grammar.specs.Bytes.{Bytes}
 use Rattle.grammar.specs.Token.{Atom}
 use Rattle.grammar.specs.Operator.{Role, Table}
 use Rattle.grammar.specs.Declaration.{Declaration, declares, clears, declare_all, declaration_tokens, all_tokens}
-use Rattle.grammar.specs.SpanTree.{root, Position, onLeft, onRight, Admitted, role_over}
+use Rattle.grammar.specs.SpanTree.{root, Position, on_left, on_right, Admitted, role_over}
 use Rattle.grammar.specs.Tree.{Tree, nothing, leaf, bracket, block, node, flat, depth, span_tree}
 use Rattle.grammar.specs.Canonical.{strip_declaration, written_atom, fitted, canonical, refuses}
 use Rattle.grammar.proofs.CheckedTrees.{InnerChecked}
@@ -62,12 +62,12 @@ module _ (μ : Tree → ℕ) (measure : Measure μ) where
       let k = both_admitted (role_over T (span_tree l) m (span_tree r)) _ _ a.2 in
       unwrapped_smaller T s o (node l m r) (canonical T (node l m r)) (canonical-root T l m r p i) f
       (measure.in_node m _ l _ r
-      (fitted_smaller T l p a.0 i.0 onLeft (role_over T (span_tree l) m (span_tree r)) k.1)
-      (fitted_smaller T r p a.1 i.1 onRight (role_over T (span_tree l) m (span_tree r)) k.2))
+      (fitted_smaller T l p a.0 i.0 on_left (role_over T (span_tree l) m (span_tree r)) k.1)
+      (fitted_smaller T r p a.1 i.1 on_right (role_over T (span_tree l) m (span_tree r)) k.2))
 
   smaller : (T : Table) (t : Tree) → Positive T → Admitted T (span_tree t) → InnerChecked T t → μ (canonical T t) ≤ μ t
   unfolding fitted refuses
-  smaller T t p a i = fitted_smaller T t p a i onLeft none refl
+  smaller T t p a i = fitted_smaller T t p a i on_left none refl
 
 strip_tokens : (ds : List Declaration) → length (all_tokens (map strip_declaration ds)) ≡ length (all_tokens ds)
 unfolding all_tokens strip_declaration declaration_tokens

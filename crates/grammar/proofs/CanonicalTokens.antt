@@ -17,8 +17,8 @@ use Rattle.grammar.specs.Token.{
   number,
   closing,
   semicolon,
-  keywordIn,
-  keywordEnd,
+  keyword_in,
+  keyword_end,
   is_number,
   longest_number,
   is_symbol,
@@ -37,7 +37,7 @@ use Rattle.grammar.specs.Declaration.{
   declaration_tokens,
   all_tokens,
 }
-use Rattle.grammar.specs.SpanTree.{Position, onLeft, onRight, is_operand_atom, is_operand, Admitted}
+use Rattle.grammar.specs.SpanTree.{Position, on_left, on_right, is_operand_atom, is_operand, Admitted}
 use Rattle.grammar.specs.Tree.{Tree, nothing, leaf, bracket, block, node, flat, span_tree}
 use Rattle.grammar.specs.Canonical.{strip, strip_declaration, written_atom, fitted, canonical}
 use Rattle.grammar.proofs.CheckedTrees.{InnerChecked}
@@ -81,14 +81,14 @@ pub block_tokens :
     → (are_tokens (all_tokens ds) ≡ true) × (are_tokens (flat t) ≡ true)
 unfolding flat are_tokens is_token
 block_tokens ds t e =
-    tokens_split (all_tokens ds) (structure keywordIn ∷ flat t) (tokens_split (all_tokens ds ++ structure keywordIn ∷ flat t) (structure keywordEnd ∷ []) e).0
+    tokens_split (all_tokens ds) (structure keyword_in ∷ flat t) (tokens_split (all_tokens ds ++ structure keyword_in ∷ flat t) (structure keyword_end ∷ []) e).0
 
 tokens_block :
     (ds : List Declaration) (t : Tree) → are_tokens (all_tokens ds) ≡ true → are_tokens (flat t) ≡ true
     → are_tokens (flat (block ds t)) ≡ true
 unfolding flat are_tokens is_token
 tokens_block ds t e f =
-    tokens_join (all_tokens ds ++ structure keywordIn ∷ flat t) (structure keywordEnd ∷ []) (tokens_join (all_tokens ds) (structure keywordIn ∷ flat t) e f) refl
+    tokens_join (all_tokens ds ++ structure keyword_in ∷ flat t) (structure keyword_end ∷ []) (tokens_join (all_tokens ds) (structure keyword_in ∷ flat t) e f) refl
 
 pub node_tokens :
     (l : Tree) (m : Bytes) (r : Tree) → are_tokens (flat (node l m r)) ≡ true
@@ -177,6 +177,6 @@ canonical_tokens T (block ds t) a i e =
 canonical_tokens T (node l m r) a i e =
     let parts = node_tokens l m r e in
     tokens_node _ m _
-    (fitted_tokens T onLeft _ (canonical T l) (canonical_tokens T l a.0 i.0 parts.0))
+    (fitted_tokens T on_left _ (canonical T l) (canonical_tokens T l a.0 i.0 parts.0))
     parts.1
-    (fitted_tokens T onRight _ (canonical T r) (canonical_tokens T r a.1 i.1 parts.2))
+    (fitted_tokens T on_right _ (canonical T r) (canonical_tokens T r a.1 i.1 parts.2))

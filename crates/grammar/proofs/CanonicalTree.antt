@@ -19,8 +19,8 @@ use Rattle.grammar.specs.SpanTree.{
   root,
   root_precedence,
   Position,
-  onLeft,
-  onRight,
+  on_left,
+  on_right,
   admits,
   admits_both,
   is_operand_atom,
@@ -79,20 +79,20 @@ written_by P T same quotes bare strips (quoted c) = go (is_symbol c && not (in_f
 -- An operator's role admits both operands: it is there and refuses neither.
 pub both_admitted :
     (o a b : Option Role) → admits_both o a b ≡ true
-    → (is_some o ≡ true) × (refuses onLeft o a ≡ false) × (refuses onRight o b ≡ false)
+    → (is_some o ≡ true) × (refuses on_left o a ≡ false) × (refuses on_right o b ≡ false)
 unfolding admits_both is_some refuses
 both_admitted none a b e = absurd (clash e refl)
 both_admitted (some p) a b e =
-    let l : admits onLeft p a ≡ true = and_left _ (admits onRight p b) e in
-    let r : admits onRight p b ≡ true = and_right (admits onLeft p a) _ e in
+    let l : admits on_left p a ≡ true = and_left _ (admits on_right p b) e in
+    let r : admits on_right p b ≡ true = and_right (admits on_left p a) _ e in
     (refl, ap not l, ap not r)
 
 admitted_both :
-    (o a b : Option Role) → is_some o ≡ true → refuses onLeft o a ≡ false → refuses onRight o b ≡ false → admits_both o a b ≡ true
+    (o a b : Option Role) → is_some o ≡ true → refuses on_left o a ≡ false → refuses on_right o b ≡ false → admits_both o a b ≡ true
 unfolding admits_both is_some refuses
 admitted_both none a b e l r = absurd (clash e refl)
 admitted_both (some p) a b e l r =
-    and_intro (sym (not-not (admits onLeft p a)) ∙ ap not l) (sym (not-not (admits onRight p b)) ∙ ap not r)
+    and_intro (sym (not-not (admits on_left p a)) ∙ ap not l) (sym (not-not (admits on_right p b)) ∙ ap not r)
 
 -- A place of the operator `m` of the fixity `f`.
 module _ (T : Table) (positive : Positive T) (s : Position) (m : Bytes) (f : Option Fixity) where
@@ -156,7 +156,7 @@ fitted_tight T s o t p =
 
 -- The operator `m` of the fixity `f` over operands fitted to it.
 abbrev pub over : Table → Bytes → Option Fixity → Tree → Tree → Tree
-over T m f l r = node (fitted T onLeft (role_of_fixity T m f) l) m (fitted T onRight (role_of_fixity T m f) r)
+over T m f l r = node (fitted T on_left (role_of_fixity T m f) l) m (fitted T on_right (role_of_fixity T m f) r)
 
 -- The operands `l` and `r` of an operator are replaced by `l'` and `r'`, which are there where `l` and `r` are.
 module _ (T : Table) (positive : Positive T) (l r : Tree) (m : Bytes) (l' r' : Tree) where
@@ -167,11 +167,11 @@ module _ (T : Table) (positive : Positive T) (l r : Tree) (m : Bytes) (l' r' : T
       (same_left : present (span_tree l') ≡ present (span_tree l))
       (same-right : present (span_tree r') ≡ present (span_tree r))
     where
-      left_kept : present (span_tree (fitted T onLeft (role_of_fixity T m f) l')) ≡ present (span_tree l)
-      left_kept = fitted-present T positive onLeft m f l' ∙ same_left
+      left_kept : present (span_tree (fitted T on_left (role_of_fixity T m f) l')) ≡ present (span_tree l)
+      left_kept = fitted-present T positive on_left m f l' ∙ same_left
 
-      right_kept : present (span_tree (fitted T onRight (role_of_fixity T m f) r')) ≡ present (span_tree r)
-      right_kept = fitted-present T positive onRight m f r' ∙ same-right
+      right_kept : present (span_tree (fitted T on_right (role_of_fixity T m f) r')) ≡ present (span_tree r)
+      right_kept = fitted-present T positive on_right m f r' ∙ same-right
 
       -- The operator keeps its role,
       role_kept : root T (span_tree (over T m f l' r')) ≡ role_of_fixity T m f
@@ -185,19 +185,19 @@ module _ (T : Table) (positive : Positive T) (l r : Tree) (m : Bytes) (l' r' : T
       unfolding span_tree root role_over
       node_ok a p q = (
         (
-          fitted_admitted T onLeft (role_of_fixity T m f) l' p.0,
-          fitted_admitted T onRight (role_of_fixity T m f) r' q.0,
+          fitted_admitted T on_left (role_of_fixity T m f) l' p.0,
+          fitted_admitted T on_right (role_of_fixity T m f) r' q.0,
           rw role_kept
               (admitted_both (role_of_fixity T m f) _ _ (both_admitted (role_of_fixity T m f) _ _ a.2).0
-              (fitted_fits T positive onLeft m f l') (fitted_fits T positive onRight m f r')),
+              (fitted_fits T positive on_left m f l') (fitted_fits T positive on_right m f r')),
         ),
-        (fitted_inner T positive onLeft m f l' p.0 p.1, fitted_inner T positive onRight m f r' q.0 q.1),
+        (fitted_inner T positive on_left m f l' p.0 p.1, fitted_inner T positive on_right m f r' q.0 q.1),
       )
 
       -- and no bracket of them is spare.
       node_tight : NoSpare T false l' → NoSpare T false r' → NoSpare T false (over T m f l' r')
       unfolding span_tree root role_over
-      node_tight p q = rw role_kept (fitted_tight T onLeft (role_of_fixity T m f) l' p, fitted_tight T onRight (role_of_fixity T m f) r' q)
+      node_tight p q = rw role_kept (fitted_tight T on_left (role_of_fixity T m f) l' p, fitted_tight T on_right (role_of_fixity T m f) r' q)
 
 -- Without its outer brackets a tree is there if it was, as no bracket is empty.
 pub canonical-present : (T : Table) (t : Tree) → InnerChecked T t → present (span_tree (canonical T t)) ≡ present (span_tree t)

@@ -24,8 +24,8 @@ use Rattle.grammar.specs.SpanTree.{
   root,
   root_precedence,
   is_right,
-  onLeft,
-  onRight,
+  on_left,
+  on_right,
   admits_equal,
   admits,
   admits_both,
@@ -73,19 +73,19 @@ abbrev pub some_operand : Item
 some_operand = single (number [])
 
 -- A role admits on its right what it keeps, and keeps what it admits there.
-pub keeps_admits : (q : Role) (o : Option Role) → Keeps q (root_precedence o) → admits onRight q o ≡ true
+pub keeps_admits : (q : Role) (o : Option Role) → Keeps q (root_precedence o) → admits on_right q o ≡ true
 unfolding admits admits_equal
 keeps_admits q o k = go (ltb (root_precedence o) q.precedence) refl
   where
-    go : (b : Bool) → ltb (root_precedence o) q.precedence ≡ b → admits onRight q o ≡ true
+    go : (b : Bool) → ltb (root_precedence o) q.precedence ≡ b → admits on_right q o ≡ true
     go true e = rw e
     go false e =
         let f = ltb-false (root_precedence o) q.precedence e in
         rw (e, eq-eqb (root_precedence o) q.precedence (omega arith)) (k.1 (omega arith))
 
-pub admits_keeps : (q : Role) (o : Option Role) → admits onRight q o ≡ true → Keeps q (root_precedence o)
+pub admits_keeps : (q : Role) (o : Option Role) → admits on_right q o ≡ true → Keeps q (root_precedence o)
 unfolding admits_equal
-admits_keeps q o h = admits-cases onRight q o h
+admits_keeps q o h = admits-cases on_right q o h
 
 -- An operator that does not give way keeps the one that comes.
 pub stays_keeps : (q d : Role) → gives_way (some q) (some d) ≡ false → Keeps q d.precedence
@@ -107,7 +107,7 @@ pub record Came (T : Table) (l : SpanTree) (m : Bytes) (w : Stack) : Type 0 wher
   pub own : Role
   pub known : coming T (present l) m ≡ some own
   pub admitted : Admitted T l
-  pub fits : admits onLeft own (root T l) ≡ true
+  pub fits : admits on_left own (root T l) ≡ true
   pub below : Bears T w own.precedence
 
 abbrev pub Waits : Table → Stack → Type 0
@@ -205,7 +205,7 @@ module _ (T : Table) (clear : Unambiguous T) (side : OneSide T) (positive : Posi
   over-present l m o h = rw h
 
   -- A missing left operand fits.
-  operand_fits : (m : Bytes) (f : Fixity) (q : Role) → role T m f ≡ some q → admits onLeft q (root T missing) ≡ true
+  operand_fits : (m : Bytes) (f : Fixity) (q : Role) → role T m f ≡ some q → admits on_left q (root T missing) ≡ true
   unfolding admits root root_precedence
   operand_fits m f q e = let p = positive m f q e in rw (lt-ltb 0 q.precedence (omega arith))
 

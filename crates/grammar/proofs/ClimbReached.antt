@@ -110,9 +110,9 @@ module _ (T : Table) (clear : Unambiguous T) (side : OneSide T) where
   operator_step_lem l m r a c w b =
       rw (advance, operator_item m c.form c.own c.known, push T clear l m r a c w b, arrived, tree_arrives l m r c w b)
 
-  operand_step : (i : Item) (w : Stack) (p : ℕ) → is_operand T i ≡ true → Bears T w p → advance T (at w missing) i ≡ some (at w (operand i))
+  operand_step_lem : (i : Item) (w : Stack) (p : ℕ) → is_operand T i ≡ true → Bears T w p → advance T (at w missing) i ≡ some (at w (operand i))
   unfolding advance operand_step present
-  operand_step i w p e b = rw (advance, e, operand_step, bears-takes w p b)
+  operand_step_lem i w p e b = rw (advance, e, operand_step, bears-takes w p b)
 
   -- The pass over the items of an admitted tree leaves its right spine.
   pub reaches_tree :
@@ -120,7 +120,7 @@ module _ (T : Table) (clear : Unambiguous T) (side : OneSide T) where
       → Reaches T (at w missing) (yield s) (at (spine s w) (spine_end s))
   unfolding yield present spine spine_end root root_precedence
   reaches_tree missing a w b = stay
-  reaches_tree (operand i) a w b = next (operand_step i w 0 a (b refl)) stay
+  reaches_tree (operand i) a w b = next (operand_step_lem i w 0 a (b refl)) stay
   reaches_tree (apply l m r) a w b =
       reaches_append
       (reaches_tree l a.0 w (λ e. bears_lower T w c.own.precedence (root_precedence (root T l)) (left_gives c).0 here))

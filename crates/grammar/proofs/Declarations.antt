@@ -21,9 +21,9 @@ use Rattle.grammar.specs.Token.{
   opening,
   closing,
   semicolon,
-  keywordLet,
-  keywordIn,
-  keywordEnd,
+  keyword_let,
+  keyword_in,
+  keyword_end,
 }
 use Rattle.grammar.specs.Operator.{Fixity, Prefix, Infix, Postfix, Associativity, left, right, non, allowed, Table, permitted}
 use Rattle.grammar.specs.Outcome.{Outcome, refused, passed, and_then}
@@ -135,9 +135,9 @@ token_wanted (atom (quoted c)) = ((λ w e. cc), (λ d e. (cc, cc)), λ e. cc)
 token_wanted (structure opening) = ((λ w e. cc), (λ d e. (cc, cc)), λ e. cc)
 token_wanted (structure closing) = ((λ w e. cc), (λ d e. (cc, cc)), λ e. cc)
 token_wanted (structure semicolon) = ((λ w e. cc), (λ d e. (cc, cc)), λ e. cc)
-token_wanted (structure keywordLet) = ((λ w e. cc), (λ d e. (cc, cc)), λ e. cc)
-token_wanted (structure keywordIn) = ((λ w e. cc), (λ d e. (cc, cc)), λ e. cc)
-token_wanted (structure keywordEnd) = ((λ w e. cc), (λ d e. (cc, cc)), λ e. cc)
+token_wanted (structure keyword_let) = ((λ w e. cc), (λ d e. (cc, cc)), λ e. cc)
+token_wanted (structure keyword_in) = ((λ w e. cc), (λ d e. (cc, cc)), λ e. cc)
+token_wanted (structure keyword_end) = ((λ w e. cc), (λ d e. (cc, cc)), λ e. cc)
 
 module _ {A : Type 0} (word : A → Bytes) (w : Bytes) {b : A} where
   word_wanted :

@@ -10,7 +10,7 @@ use native.Mathlib.Omega.{arith}
 use lib.ListN.{length, take, drop, length-append}
 use lib.Seq.{take-append_seam, take_at}
 use Rattle.grammar.specs.Bytes.{Bytes}
-use Rattle.grammar.specs.Token.{Atom, symbol, number, quoted, is_quote, doubled, Token, atom, structure, keywordLet, keywordIn, as_written, spelling}
+use Rattle.grammar.specs.Token.{Atom, symbol, number, quoted, is_quote, doubled, Token, atom, structure, keyword_let, keyword_in, as_written, spelling}
 use Rattle.grammar.specs.Operator.{Fixity, Prefix, Infix, Postfix}
 use Rattle.grammar.specs.Scan.{Placed}
 use Rattle.grammar.specs.Declaration.{Declaration, start_table, all_tokens, are_declarations, declarations}
@@ -70,9 +70,9 @@ use Rattle.grammar.proofs.Subtrees.{
 use Rattle.grammar.proofs.NodeCharacters.{root_gives}
 
 -- The declarations that the text of a block from `let` to `in` spells are the block's.
-between_ends : (x y : Token) (ts : List Token) → between_ends (x ∷ ts ++ y ∷ []) ≡ ts
+between_ends_lem : (x y : Token) (ts : List Token) → between_ends (x ∷ ts ++ y ∷ []) ≡ ts
 unfolding between_ends
-between_ends x y ts =
+between_ends_lem x y ts =
     let size : length (ts ++ y ∷ []) ≡ length ts + 1 = length-append ts (y ∷ []) in
     let inner : suc (length (ts ++ y ∷ [])) - 2 ≡ length ts = omega arith in
     ap (λ n. take n (ts ++ y ∷ [])) inner ∙ take-append_seam ts (y ∷ [])
@@ -82,12 +82,12 @@ declarations-spelled :
     → declarations_in s ≡ some ds
 unfolding declarations_in declarations_scanned
 declarations-spelled ds s e n h =
-    let size = length-append (all_tokens ds) (structure keywordIn ∷ []) in
+    let size = length-append (all_tokens ds) (structure keyword_in ∷ []) in
     let (ps, found, same) = scan-spells h.spells most_tokens 0 (omega arith) in
     ap declarations_scanned found
     ∙ ap some
     (ap (λ ts. declarations (between_ends ts)) same
-    ∙ ap declarations (between_ends (structure keywordLet) (structure keywordIn) (all_tokens ds))
+    ∙ ap declarations (between_ends_lem (structure keyword_let) (structure keyword_in) (all_tokens ds))
     ∙ declarations_of_lem ds e)
 
 -- A bare name and a quoted one, told by the byte before their bytes.

@@ -13,7 +13,7 @@ use Rattle.grammar.specs.Spelling.{Spells}
 use Rattle.grammar.specs.Outcome.{passed}
 use Rattle.grammar.specs.Operator.{Role, Table}
 use Rattle.grammar.specs.Declaration.{declare_all, start_table}
-use Rattle.grammar.specs.SpanTree.{Position, onLeft, onRight}
+use Rattle.grammar.specs.SpanTree.{Position, on_left, on_right}
 use Rattle.grammar.specs.Tree.{Tree, nothing, leaf, bracket, block, node, flat, InnerOk, IsTree}
 use Rattle.grammar.specs.Abstract.{abstract, Agree}
 use Rattle.grammar.specs.Canonical.{fitted, canonical}
@@ -61,8 +61,8 @@ checked_by_canonical T (block ds t) h i = (
   checked_by_canonical (declare_all T ds) t h.1 (rw (declare-strip T ds) at i.3),
 )
 checked_by_canonical T (node l m r) h i = (
-  checked_by_canonical T l h.0 (fitted_checked T onLeft _ (canonical T l) i.0),
-  checked_by_canonical T r h.1 (fitted_checked T onRight _ (canonical T r) i.1),
+  checked_by_canonical T l h.0 (fitted_checked T on_left _ (canonical T l) i.0),
+  checked_by_canonical T r h.1 (fitted_checked T on_right _ (canonical T r) i.1),
 )
 
 -- A tree `u` of tokens that agrees with what a text was read as has the canonical tree of that, and no fewer tokens than it.

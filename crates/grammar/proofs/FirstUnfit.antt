@@ -13,7 +13,7 @@ use lib.ListN.{length, length-append, take}
 use lib.Seq.{take-append_seam}
 use borrow.Author.Tests.{leb-true, leb-false}
 use Rattle.grammar.specs.Bytes.{Bytes, bytes, same}
-use Rattle.grammar.specs.Token.{Token, atom, structure, symbol, number, semicolon, keywordIn, is_structure, structure_number}
+use Rattle.grammar.specs.Token.{Token, atom, structure, symbol, number, semicolon, keyword_in, is_structure, structure_number}
 use Rattle.grammar.specs.Operator.{Fixity, Prefix, Infix, Postfix, Associativity, non, allowed}
 use Rattle.grammar.specs.Declaration.{
   Declaration,
@@ -49,7 +49,7 @@ use Rattle.grammar.proofs.DeclarationTokens.{first_told}
 
 -- The tokens of a declaration part and the `in` behind them, which fits nowhere.
 abbrev pub with_in : List Token → List Token
-with_in ts = ts ++ structure keywordIn ∷ []
+with_in ts = ts ++ structure keyword_in ∷ []
 
 -- Some tokens, one at least, are read to the end.
 abbrev BeginsOne : (List Token → Parsed) → Type 0
@@ -74,7 +74,7 @@ go_on n further ts o = elim o [ none ↦ unfit n | some x ↦ further x ts ]
 module _ (read : List Token → Parsed) (n : ℕ) {A : Type 0} (test : Token → Option A) (further : A → List Token → Parsed)
     (ended : read [] ≡ unfit n)
     (one : (t : Token) (ts : List Token) → read (t ∷ ts) ≡ go_on n further ts (test t))
-    (in-unfit : test (structure keywordIn) ≡ none) (begins : BeginsOne read)
+    (in-unfit : test (structure keyword_in) ≡ none) (begins : BeginsOne read)
     (next : (x : A) (ts : List Token) (k : ℕ) → further x ts ≡ unfit k → StopsAt (further x) (suc n) (with_in ts) k) where
   here : (t : Token) (ts : List Token) (k : ℕ) → test t ≡ none → unfit n ≡ unfit k → StopsAt read n (t ∷ ts) k
   here t ts k p e =
@@ -93,7 +93,7 @@ module _ (read : List Token → Parsed) (n : ℕ) {A : Type 0} (test : Token →
       }
 
   part_stops : (ts : List Token) (k : ℕ) → read ts ≡ unfit k → StopsAt read n (with_in ts) k
-  part_stops [] k e = here (structure keywordIn) [] k in-unfit (sym ended ∙ e)
+  part_stops [] k e = here (structure keyword_in) [] k in-unfit (sym ended ∙ e)
   part_stops (t ∷ ts) k e = go (test t) refl
     where
       go : (o : Option A) → test t ≡ o → StopsAt read n (t ∷ with_in ts) k
@@ -266,4 +266,4 @@ unfit_first ts k = (λ e. stops_first (with_in ts) k (declaration_stops ts k e),
         e ∙ ap unfit (omega (arith, no_earlier (with_in ts) j k q p, no_earlier (with_in ts) k j p q))
     back p (parsed d rest) e =
         let (h, a) = declaration_sound ts d rest e in
-        absurd (whole_fits d (with_in rest) k a (rw (h, append_assoc (declaration_tokens d) rest (structure keywordIn ∷ [])) at p))
+        absurd (whole_fits d (with_in rest) k a (rw (h, append_assoc (declaration_tokens d) rest (structure keyword_in ∷ [])) at p))

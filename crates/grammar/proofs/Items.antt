@@ -5,7 +5,7 @@ use mathlib.Core.Bool.{Bool, true, false}
 use mathlib.Core.List.{List, [], ◌∷◌, ◌++◌, append_assoc, append-nil}
 use Prim.Native.Nat.{ℕ, zero, suc}
 use Rattle.grammar.specs.Bytes.{All}
-use Rattle.grammar.specs.Token.{Atom, symbol, opening, closing, semicolon, keywordLet, keywordIn, keywordEnd}
+use Rattle.grammar.specs.Token.{Atom, symbol, opening, closing, semicolon, keyword_let, keyword_in, keyword_end}
 use Rattle.grammar.specs.Token.{Token, atom, structure, is_structure, structure_number}
 use Rattle.grammar.specs.Declaration.{Declaration, declares, clears, declaration_tokens, all_tokens}
 use Rattle.grammar.specs.Span.{
@@ -55,17 +55,17 @@ unfolding is_in is_structure structure_number
 is_in_quiet = quiet_cases (λ t. is_in t ≡ false) (λ a. refl) refl
 
 -- A block's tokens are cut at its first `in`.
-pub before_in_lem : (ds ts : List Token) → AllQuiet ds → before_in (ds ++ structure keywordIn ∷ ts) ≡ ds
+pub before_in_lem : (ds ts : List Token) → AllQuiet ds → before_in (ds ++ structure keyword_in ∷ ts) ≡ ds
 unfolding before_in is_in is_structure structure_number
 before_in_lem [] ts q = refl
 before_in_lem (d ∷ ds) ts q = rw (is_in_quiet d q.0, before_in) (ap (λ xs. d ∷ xs) (before_in_lem ds ts q.1))
 
-pub after_in_lem : (ds ts : List Token) → AllQuiet ds → after_in (ds ++ structure keywordIn ∷ ts) ≡ ts
+pub after_in_lem : (ds ts : List Token) → AllQuiet ds → after_in (ds ++ structure keyword_in ∷ ts) ≡ ts
 unfolding after_in is_in is_structure structure_number
 after_in_lem [] ts q = refl
 after_in_lem (d ∷ ds) ts q = rw (is_in_quiet d q.0, after_in) (after_in_lem ds ts q.1)
 
-pub item_block : (ds ts : List Token) → AllQuiet ds → item true (ds ++ structure keywordIn ∷ ts) ≡ scope ds ts
+pub item_block : (ds ts : List Token) → AllQuiet ds → item true (ds ++ structure keyword_in ∷ ts) ≡ scope ds ts
 unfolding item
 item_block ds ts q = rw (before_in_lem ds ts q, after_in_lem ds ts q)
 
@@ -117,11 +117,11 @@ collected_pair b o e p q ts more c m b' d us rest =
     ∙ (m b' d (((us ++ o ∷ []) ++ ts) ++ e ∷ []) rest ∙ simp append_assoc))))
 
 -- A block's tokens between `let` and `end`.
-pub collected_block : (ds ts : List Token) → AllQuiet ds → Collected ts → Collected (ds ++ structure keywordIn ∷ ts)
+pub collected_block : (ds ts : List Token) → AllQuiet ds → Collected ts → Collected (ds ++ structure keyword_in ∷ ts)
 unfolding effect
 collected_block ds ts q c =
-    collected_append ds (structure keywordIn ∷ ts) (collected_all_quiet ds q)
-    (collected_append (structure keywordIn ∷ []) ts (λ b d us rest. collects b d us (structure keywordIn) rest refl) c)
+    collected_append ds (structure keyword_in ∷ ts) (collected_all_quiet ds q)
+    (collected_append (structure keyword_in ∷ []) ts (λ b d us rest. collects b d us (structure keyword_in) rest refl) c)
 
 -- A tree is collected as a whole.
 collected_flat : (t : Tree) → Collected (flat t)
@@ -131,7 +131,7 @@ collected_flat (leaf a) = collected_quiet (atom a) tt
 collected_flat (bracket t) =
     collected_pair false (structure opening) (structure closing) refl refl (flat t) [] (collected_flat t) collected_none
 collected_flat (block ds t) =
-    collected_pair true (structure keywordLet) (structure keywordEnd) refl refl (all_tokens ds ++ structure keywordIn ∷ flat t) []
+    collected_pair true (structure keyword_let) (structure keyword_end) refl refl (all_tokens ds ++ structure keyword_in ∷ flat t) []
     (collected_block (all_tokens ds) (flat t) (declarations_quiet ds) (collected_flat t)) collected_none
 collected_flat (node l m r) =
     collected_append (flat l) (atom (symbol m) ∷ flat r) (collected_flat l)
@@ -155,8 +155,8 @@ outside_flat (bracket t) rest =
     rw (append_assoc (flat t) (structure closing ∷ []) rest)
     (outside_pair false (structure opening) (structure closing) refl refl (flat t) rest (collected_flat t))
 outside_flat (block ds t) rest =
-    rw (append_assoc (all_tokens ds ++ structure keywordIn ∷ flat t) (structure keywordEnd ∷ []) rest)
-    (outside_pair true (structure keywordLet) (structure keywordEnd) refl refl (all_tokens ds ++ structure keywordIn ∷ flat t) rest
+    rw (append_assoc (all_tokens ds ++ structure keyword_in ∷ flat t) (structure keyword_end ∷ []) rest)
+    (outside_pair true (structure keyword_let) (structure keyword_end) refl refl (all_tokens ds ++ structure keyword_in ∷ flat t) rest
     (collected_block (all_tokens ds) (flat t) (declarations_quiet ds) (collected_flat t))
     ∙ rw (item_block (all_tokens ds) (flat t) (declarations_quiet ds)))
 outside_flat (node l m r) rest =

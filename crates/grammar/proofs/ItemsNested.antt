@@ -8,8 +8,8 @@ use mathlib.Core.List.{List, [], ◌∷◌, ◌++◌, append_assoc, append-nil}
 use Prim.Native.Nat.{ℕ, suc, ◌≤◌, ◌<◌}
 use native.Mathlib.Omega.{arith}
 use lib.ListN.{length, length-append}
-use Rattle.grammar.specs.Open.{Open, in_bracket, inDeclarations, in_body}
-use Rattle.grammar.specs.Token.{atom, structure, Token, opening, closing, semicolon, keywordLet, keywordIn, keywordEnd}
+use Rattle.grammar.specs.Open.{Open, in_bracket, in_declarations, in_body}
+use Rattle.grammar.specs.Token.{atom, structure, Token, opening, closing, semicolon, keyword_let, keyword_in, keyword_end}
 use Rattle.grammar.specs.Outcome.{passed}
 use Rattle.grammar.specs.Nesting.{Move, stays, broken, enters, becomes, leaves}
 use Rattle.grammar.specs.Nesting.{outermost, within, move, close_innermost, nesting}
@@ -57,11 +57,11 @@ opened (body ds) = in_body
 
 abbrev opener : Pair → Token
 opener brackets = structure opening
-opener (body ds) = structure keywordLet
+opener (body ds) = structure keyword_let
 
 abbrev closer : Pair → Token
 closer brackets = structure closing
-closer (body ds) = structure keywordEnd
+closer (body ds) = structure keyword_end
 
 abbrev is_block : Pair → Bool
 is_block brackets = false
@@ -70,7 +70,7 @@ is_block (body ds) = true
 -- Its tokens before the span in it, and the item that it is with the span `ts`.
 abbrev before : Pair → List Token
 before brackets = []
-before (body ds) = ds ++ structure keywordIn ∷ []
+before (body ds) = ds ++ structure keyword_in ∷ []
 
 abbrev whole : Pair → List Token → Item
 whole brackets ts = pair ts
@@ -94,13 +94,13 @@ walk_of (held h inner us) = inside (is_block h) (length inner) (before h ++ us)
 
 abbrev open_of : State → List Open
 open_of between = []
-open_of (declaring ds) = inDeclarations ∷ []
+open_of (declaring ds) = in_declarations ∷ []
 open_of (held h inner us) = inner ++ opened h ∷ []
 
 -- The tokens of the item that is not finished.
 abbrev unfinished : State → List Token
 unfinished between = []
-unfinished (declaring ds) = structure keywordLet ∷ ds
+unfinished (declaring ds) = structure keyword_let ∷ ds
 unfinished (held h inner us) = opener h ∷ before h ++ us
 
 -- Walked from nothing open, `us` leads to `inner`.
@@ -146,52 +146,52 @@ between_step (structure opening) ts i h =
     }
 between_step (structure closing) ts i h = absurd (refused_passed h)
 between_step (structure semicolon) ts i h = absurd (refused_passed h)
-between_step (structure keywordLet) ts i h =
+between_step (structure keyword_let) ts i h =
     record {
       next = declaring [];
       done = [];
       sound = tt;
-      passes = (nesting-after [] i (structure keywordLet) ts (enters inDeclarations) refl h).1;
+      passes = (nesting-after [] i (structure keyword_let) ts (enters in_declarations) refl h).1;
       walked = refl;
       kept = refl;
       nested = tt;
     }
-between_step (structure keywordIn) ts i h = absurd (refused_passed h)
-between_step (structure keywordEnd) ts i h = absurd (refused_passed h)
+between_step (structure keyword_in) ts i h = absurd (refused_passed h)
+between_step (structure keyword_end) ts i h = absurd (refused_passed h)
 
 quiet_step : (ds : List Token) → AllQuiet ds → (t : Token) → InDeclarations t → (ts : List Token) (i : ℕ)
-    → nesting (inDeclarations ∷ []) i (t ∷ ts) ≡ passed tt → Step (declaring ds) t ts i
+    → nesting (in_declarations ∷ []) i (t ∷ ts) ≡ passed tt → Step (declaring ds) t ts i
 unfolding all_item_tokens moved
 quiet_step ds q t c ts i h =
     record {
       next = declaring (ds ++ t ∷ []);
       done = [];
       sound = all_append InDeclarations ds (t ∷ []) q (c, tt);
-      passes = (nesting-after (inDeclarations ∷ []) i t ts stays (quiet_stays [] t c) h).1;
+      passes = (nesting-after (in_declarations ∷ []) i t ts stays (quiet_stays [] t c) h).1;
       walked = collects true 0 ds t ts (effect_quiet t c);
       kept = refl;
       nested = tt;
     }
 
 declaring_step : (ds : List Token) → AllQuiet ds → (t : Token) (ts : List Token) (i : ℕ)
-    → nesting (inDeclarations ∷ []) i (t ∷ ts) ≡ passed tt → Step (declaring ds) t ts i
+    → nesting (in_declarations ∷ []) i (t ∷ ts) ≡ passed tt → Step (declaring ds) t ts i
 unfolding nesting move within moved close_innermost effect all_item_tokens
 declaring_step ds q (atom a) ts i h = quiet_step ds q (atom a) tt ts i h
 declaring_step ds q (structure opening) ts i h = absurd (refused_passed h)
 declaring_step ds q (structure closing) ts i h = absurd (refused_passed h)
 declaring_step ds q (structure semicolon) ts i h = quiet_step ds q (structure semicolon) refl ts i h
-declaring_step ds q (structure keywordLet) ts i h = absurd (refused_passed h)
-declaring_step ds q (structure keywordIn) ts i h =
+declaring_step ds q (structure keyword_let) ts i h = absurd (refused_passed h)
+declaring_step ds q (structure keyword_in) ts i h =
     record {
       next = held (body ds) [] [];
       done = [];
       sound = (q, λ vs p. p);
-      passes = (nesting-after (inDeclarations ∷ []) i (structure keywordIn) ts (becomes in_body) refl h).1;
-      walked = collects true 0 ds (structure keywordIn) ts refl ∙ rw (append-nil (ds ++ structure keywordIn ∷ []));
-      kept = ap (λ us. (structure keywordLet) ∷ us) (append-nil (ds ++ structure keywordIn ∷ []));
+      passes = (nesting-after (in_declarations ∷ []) i (structure keyword_in) ts (becomes in_body) refl h).1;
+      walked = collects true 0 ds (structure keyword_in) ts refl ∙ rw (append-nil (ds ++ structure keyword_in ∷ []));
+      kept = ap (λ us. (structure keyword_let) ∷ us) (append-nil (ds ++ structure keyword_in ∷ []));
       nested = tt;
     }
-declaring_step ds q (structure keywordEnd) ts i h = absurd (refused_passed h)
+declaring_step ds q (structure keyword_end) ts i h = absurd (refused_passed h)
 
 -- Inside a pair, what a token does to the openers in it is what it does to the depth of the walk.
 inside_step : (b : Bool) (us : List Token) (inner : List Open) (t : Token) (ts : List Token) → Allowed inner (move inner t)
@@ -201,28 +201,28 @@ inside_step b us [] (atom x) ts a = refl
 inside_step b us [] (structure opening) ts a = refl
 inside_step b us [] (structure closing) ts a = absurd a
 inside_step b us [] (structure semicolon) ts a = absurd a
-inside_step b us [] (structure keywordLet) ts a = refl
-inside_step b us [] (structure keywordIn) ts a = absurd a
-inside_step b us [] (structure keywordEnd) ts a = absurd a
+inside_step b us [] (structure keyword_let) ts a = refl
+inside_step b us [] (structure keyword_in) ts a = absurd a
+inside_step b us [] (structure keyword_end) ts a = absurd a
 inside_step b us (o ∷ os) (atom x) ts a = refl
 inside_step b us (in_bracket ∷ os) (structure opening) ts a = refl
 inside_step b us (in_bracket ∷ os) (structure closing) ts a = refl
 inside_step b us (in_bracket ∷ os) (structure semicolon) ts a = absurd a
-inside_step b us (in_bracket ∷ os) (structure keywordLet) ts a = refl
-inside_step b us (in_bracket ∷ os) (structure keywordIn) ts a = absurd a
-inside_step b us (in_bracket ∷ os) (structure keywordEnd) ts a = absurd a
-inside_step b us (inDeclarations ∷ os) (structure opening) ts a = absurd a
-inside_step b us (inDeclarations ∷ os) (structure closing) ts a = absurd a
-inside_step b us (inDeclarations ∷ os) (structure semicolon) ts a = refl
-inside_step b us (inDeclarations ∷ os) (structure keywordLet) ts a = absurd a
-inside_step b us (inDeclarations ∷ os) (structure keywordIn) ts a = refl
-inside_step b us (inDeclarations ∷ os) (structure keywordEnd) ts a = absurd a
+inside_step b us (in_bracket ∷ os) (structure keyword_let) ts a = refl
+inside_step b us (in_bracket ∷ os) (structure keyword_in) ts a = absurd a
+inside_step b us (in_bracket ∷ os) (structure keyword_end) ts a = absurd a
+inside_step b us (in_declarations ∷ os) (structure opening) ts a = absurd a
+inside_step b us (in_declarations ∷ os) (structure closing) ts a = absurd a
+inside_step b us (in_declarations ∷ os) (structure semicolon) ts a = refl
+inside_step b us (in_declarations ∷ os) (structure keyword_let) ts a = absurd a
+inside_step b us (in_declarations ∷ os) (structure keyword_in) ts a = refl
+inside_step b us (in_declarations ∷ os) (structure keyword_end) ts a = absurd a
 inside_step b us (in_body ∷ os) (structure opening) ts a = refl
 inside_step b us (in_body ∷ os) (structure closing) ts a = absurd a
 inside_step b us (in_body ∷ os) (structure semicolon) ts a = absurd a
-inside_step b us (in_body ∷ os) (structure keywordLet) ts a = refl
-inside_step b us (in_body ∷ os) (structure keywordIn) ts a = absurd a
-inside_step b us (in_body ∷ os) (structure keywordEnd) ts a = refl
+inside_step b us (in_body ∷ os) (structure keyword_let) ts a = refl
+inside_step b us (in_body ∷ os) (structure keyword_in) ts a = absurd a
+inside_step b us (in_body ∷ os) (structure keyword_end) ts a = refl
 
 -- A token that does to what is open in the pair what it does to everything open.
 abbrev StaysIn : Pair → List Open → Token → Type 0
@@ -237,15 +237,15 @@ closer_or_stays h (atom a) = inr (refl, refl)
 closer_or_stays brackets (structure opening) = inr (refl, refl)
 closer_or_stays brackets (structure closing) = inl refl
 closer_or_stays brackets (structure semicolon) = inr (refl, refl)
-closer_or_stays brackets (structure keywordLet) = inr (refl, refl)
-closer_or_stays brackets (structure keywordIn) = inr (refl, refl)
-closer_or_stays brackets (structure keywordEnd) = inr (refl, refl)
+closer_or_stays brackets (structure keyword_let) = inr (refl, refl)
+closer_or_stays brackets (structure keyword_in) = inr (refl, refl)
+closer_or_stays brackets (structure keyword_end) = inr (refl, refl)
 closer_or_stays (body ds) (structure opening) = inr (refl, refl)
 closer_or_stays (body ds) (structure closing) = inr (refl, refl)
 closer_or_stays (body ds) (structure semicolon) = inr (refl, refl)
-closer_or_stays (body ds) (structure keywordLet) = inr (refl, refl)
-closer_or_stays (body ds) (structure keywordIn) = inr (refl, refl)
-closer_or_stays (body ds) (structure keywordEnd) = inl refl
+closer_or_stays (body ds) (structure keyword_let) = inr (refl, refl)
+closer_or_stays (body ds) (structure keyword_in) = inr (refl, refl)
+closer_or_stays (body ds) (structure keyword_end) = inl refl
 
 moved_below : (o p : Open) (os : List Open) (m : Move) → moved (o ∷ os ++ p ∷ []) m ≡ moved (o ∷ os) m ++ p ∷ []
 unfolding moved close_innermost
@@ -310,7 +310,7 @@ closer_step (body ds) us s ts i p =
       done = scope ds us ∷ [];
       sound = tt;
       passes = p;
-      walked = rw (append_assoc ds (structure keywordIn ∷ []) us, item_block ds us s.0);
+      walked = rw (append_assoc ds (structure keyword_in ∷ []) us, item_block ds us s.0);
       kept = simp (append-nil, append_assoc);
       nested = ((s.0, leads_inside us s.1), tt);
     }
@@ -361,7 +361,7 @@ one_further s t ts i f c =
 complete : (ts : List Token) (s : State) (i : ℕ) → Sound s → nesting (open_of s) i ts ≡ passed tt → Complete s ts
 unfolding items_from all_item_tokens
 complete [] between i s p = record { kept = refl; nested = tt }
-complete [] (declaring ds) i s p = absurd (passes_end inDeclarations [] i p)
+complete [] (declaring ds) i s p = absurd (passes_end in_declarations [] i p)
 complete [] (held h inner us) i s p = absurd (passes_end (opened h) inner i p)
 complete (t ∷ ts) s i o p =
     let f = step s o t ts i p in
@@ -390,7 +390,7 @@ item_shorter : (n : ℕ) (i : Item) → length (item_tokens i) ≤ n → ItemSho
 unfolding item_tokens
 item_shorter n (single a) h = tt
 item_shorter n (pair ts) h = omega (arith, length-append ts (structure closing ∷ []))
-item_shorter n (scope ds ts) h = omega (arith, length-append (ds ++ structure keywordIn ∷ ts) (structure keywordEnd ∷ []), length-append ds (structure keywordIn ∷ ts))
+item_shorter n (scope ds ts) h = omega (arith, length-append (ds ++ structure keyword_in ∷ ts) (structure keyword_end ∷ []), length-append ds (structure keyword_in ∷ ts))
 
 all_shorter : (n : ℕ) (is : List Item) → length (all_item_tokens is) ≤ n → Shorter n is
 unfolding all_item_tokens

@@ -6,7 +6,7 @@ use mathlib.Core.List.{List, [], ◌∷◌, ◌++◌, append_assoc}
 use Prim.Native.Nat.{ℕ, zero, suc, ◌<◌}
 use native.Mathlib.Omega.{arith}
 use lib.ListN.{length}
-use Rattle.grammar.specs.Token.{Token, atom, structure, opening, closing, keywordLet, keywordIn, keywordEnd}
+use Rattle.grammar.specs.Token.{Token, atom, structure, opening, closing, keyword_let, keyword_in, keyword_end}
 use Rattle.grammar.specs.Outcome.{passed}
 use Rattle.grammar.specs.Nesting.{nesting}
 use Rattle.grammar.specs.Span.{
@@ -48,9 +48,9 @@ unfolding all_item_tokens item_tokens
 pair_first us is = append_assoc (structure opening ∷ us) (structure closing ∷ []) (all_item_tokens is)
 
 scope_first : (ds us : List Token) (is : List Item)
-    → all_item_tokens (scope ds us ∷ is) ≡ structure keywordLet ∷ ds ++ structure keywordIn ∷ us ++ structure keywordEnd ∷ all_item_tokens is
+    → all_item_tokens (scope ds us ∷ is) ≡ structure keyword_let ∷ ds ++ structure keyword_in ∷ us ++ structure keyword_end ∷ all_item_tokens is
 unfolding all_item_tokens item_tokens
-scope_first ds us is = append_assoc (structure keywordLet ∷ ds ++ structure keywordIn ∷ us) (structure keywordEnd ∷ []) (all_item_tokens is)
+scope_first ds us is = append_assoc (structure keyword_let ∷ ds ++ structure keyword_in ∷ us) (structure keyword_end ∷ []) (all_item_tokens is)
 
 -- The tokens of items that are nested are told apart into them, if what is inside is.
 module _ (n : ℕ) (within : (us : List Token) → length us < n → Passes [] us → ItemsOf us (items us)) where
@@ -82,7 +82,7 @@ items_collected (own {a} {ts} h) = collected_append (atom a ∷ []) ts (collecte
 items_collected (inner {us} {ts} h g) =
     collected_pair false (structure opening) (structure closing) refl refl us ts (items_collected h) (items_collected g)
 items_collected (body {ds} {us} {ts} q h g) =
-    collected_pair true (structure keywordLet) (structure keywordEnd) refl refl (ds ++ structure keywordIn ∷ us) ts
+    collected_pair true (structure keyword_let) (structure keyword_end) refl refl (ds ++ structure keyword_in ∷ us) ts
     (collected_block ds us q (items_collected h)) (items_collected g)
 
 items_found : {ts : List Token} {is : List Item} → ItemsOf ts is → items_from outside ts ≡ is
@@ -92,7 +92,7 @@ items_found (own {a} {ts} h) = outside_atom a ts ∙ ap (◌∷◌ (single a)) (
 items_found (inner {us} {ts} h g) =
     outside_pair false (structure opening) (structure closing) refl refl us ts (items_collected h) ∙ ap (◌∷◌ (pair us)) (items_found g)
 items_found (body {ds} {us} {ts} q h g) =
-    outside_pair true (structure keywordLet) (structure keywordEnd) refl refl (ds ++ structure keywordIn ∷ us) ts
+    outside_pair true (structure keyword_let) (structure keyword_end) refl refl (ds ++ structure keyword_in ∷ us) ts
     (collected_block ds us q (items_collected h))
     ∙ ap₂ ◌∷◌ (item_block ds us q) (items_found g)
 

@@ -7,7 +7,7 @@ use mathlib.Core.List.{List, [], ◌∷◌, ◌++◌, append_assoc, tail-eq_of_c
 use lib.ListN.{length, drop}
 use lib.Seq.{drop-append_seam}
 use Rattle.grammar.specs.Bytes.{Bytes}
-use Rattle.grammar.specs.Token.{Token, atom, structure, opening, closing, keywordLet, keywordIn, keywordEnd}
+use Rattle.grammar.specs.Token.{Token, atom, structure, opening, closing, keyword_let, keyword_in, keyword_end}
 use Rattle.grammar.specs.Fault.{Past}
 use Rattle.grammar.specs.Span.{Item, pair, ItemsOf, empty, own, inner, body, effect, item, outside, items_from}
 use Rattle.grammar.specs.MatchingPair.{MatchingPair}
@@ -86,11 +86,11 @@ items_close empty = closes_none
 items_close (own {a} {ts} h) = closes-other (atom a) ts (λ e. impossible cc) (items_close h)
 items_close (inner {us} {ts} {ks} h g) = closes_pair us ts ks h (items_close h) (items_close g)
 items_close (body {ds} {us} {ts} q h g) =
-    closes-append (structure keywordLet ∷ ds ++ structure keywordIn ∷ us) (structure keywordEnd ∷ ts)
-    (closes-append (structure keywordLet ∷ ds) (structure keywordIn ∷ us)
-    (closes-other (structure keywordLet) ds (λ e. impossible cc) (closes_quiet ds q))
-    (closes-other (structure keywordIn) us (λ e. impossible cc) (items_close h)))
-    (closes-other (structure keywordEnd) ts (λ e. impossible cc) (items_close g))
+    closes-append (structure keyword_let ∷ ds ++ structure keyword_in ∷ us) (structure keyword_end ∷ ts)
+    (closes-append (structure keyword_let ∷ ds) (structure keyword_in ∷ us)
+    (closes-other (structure keyword_let) ds (λ e. impossible cc) (closes_quiet ds q))
+    (closes-other (structure keyword_in) us (λ e. impossible cc) (items_close h)))
+    (closes-other (structure keyword_end) ts (λ e. impossible cc) (items_close g))
 
 -- Two closers of one opening bracket are the same.
 one_closer :

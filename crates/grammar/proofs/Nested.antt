@@ -7,9 +7,9 @@ use native.Mathlib.Omega.{arith}
 use lib.Dec.{ltb}
 use lib.ListN.{length, length-append}
 use borrow.Author.Tests.{ltb-true, lt-ltb}
-use Rattle.grammar.specs.Open.{Open, in_bracket, inDeclarations, in_body, deepest, OutsideDeclarations}
+use Rattle.grammar.specs.Open.{Open, in_bracket, in_declarations, in_body, deepest, OutsideDeclarations}
 use Rattle.grammar.specs.Bytes.{Bytes}
-use Rattle.grammar.specs.Token.{atom, structure, Token, symbol, opening, closing, keywordLet, keywordIn, keywordEnd, Atom, Structure}
+use Rattle.grammar.specs.Token.{atom, structure, Token, symbol, opening, closing, keyword_let, keyword_in, keyword_end, Atom, Structure}
 use Rattle.grammar.specs.Outcome.{Outcome, refused, passed}
 use Rattle.grammar.specs.Nesting.{Move, stays, broken, enters, becomes, leaves}
 use Rattle.grammar.specs.Nesting.{outermost, within, move, close_innermost, nesting}
@@ -73,22 +73,22 @@ pub atom_stays : (os : List Open) (a : Atom) → move os (atom a) ≡ stays
 unfolding move
 atom_stays os a = refl
 
-pub quiet_stays : (os : List Open) (t : Token) → InDeclarations t → move (inDeclarations ∷ os) t ≡ stays
+pub quiet_stays : (os : List Open) (t : Token) → InDeclarations t → move (in_declarations ∷ os) t ≡ stays
 unfolding move within
-quiet_stays os = quiet_cases (λ t. move (inDeclarations ∷ os) t ≡ stays) (λ a. refl) refl
+quiet_stays os = quiet_cases (λ t. move (in_declarations ∷ os) t ≡ stays) (λ a. refl) refl
 
 pub opening_enters : (os : List Open) → OutsideDeclarations os → move os (structure opening) ≡ enters in_bracket
 unfolding move outermost within
 opening_enters [] r = refl
 opening_enters (in_bracket ∷ os) r = refl
-opening_enters (inDeclarations ∷ os) r = absurd r
+opening_enters (in_declarations ∷ os) r = absurd r
 opening_enters (in_body ∷ os) r = refl
 
-pub let_enters : (os : List Open) → OutsideDeclarations os → move os (structure keywordLet) ≡ enters inDeclarations
+pub let_enters : (os : List Open) → OutsideDeclarations os → move os (structure keyword_let) ≡ enters in_declarations
 unfolding move outermost within
 let_enters [] r = refl
 let_enters (in_bracket ∷ os) r = refl
-let_enters (inDeclarations ∷ os) r = absurd r
+let_enters (in_declarations ∷ os) r = absurd r
 let_enters (in_body ∷ os) r = refl
 
 -- Tokens that leave everything open as it is, where there is room for `d` more.
@@ -111,12 +111,12 @@ skipped_atom a os r h i rest =
     nesting_step os i (atom a) rest stays (atom_stays os a) tt ∙ ap (λ k. nesting os k rest) (omega arith)
 
 skipped_quiet : (ds : List Token) → AllQuiet ds → (os : List Open) (i : ℕ) (rest : List Token)
-    → nesting (inDeclarations ∷ os) i (ds ++ rest) ≡ nesting (inDeclarations ∷ os) (i + length ds) rest
+    → nesting (in_declarations ∷ os) i (ds ++ rest) ≡ nesting (in_declarations ∷ os) (i + length ds) rest
 unfolding moved
-skipped_quiet [] q os i rest = ap (λ k. nesting (inDeclarations ∷ os) k rest) (omega arith)
+skipped_quiet [] q os i rest = ap (λ k. nesting (in_declarations ∷ os) k rest) (omega arith)
 skipped_quiet (d ∷ ds) q os i rest =
-    nesting_step (inDeclarations ∷ os) i d (ds ++ rest) stays (quiet_stays os d q.0) tt
-    ∙ (skipped_quiet ds q.1 os (suc i) rest ∙ ap (λ k. nesting (inDeclarations ∷ os) k rest) (omega arith))
+    nesting_step (in_declarations ∷ os) i d (ds ++ rest) stays (quiet_stays os d q.0) tt
+    ∙ (skipped_quiet ds q.1 os (suc i) rest ∙ ap (λ k. nesting (in_declarations ∷ os) k rest) (omega arith))
 
 -- From behind an opener to behind its closer `e`.
 skipped_closer : (d : ℕ) (ts : List Token) → Skipped d ts → (o : Open) (e : Structure) (os : List Open) → OutsideDeclarations (o ∷ os)
@@ -129,11 +129,11 @@ skipped_closer d ts p o e os r l h i rest =
 
 -- From behind `let` to behind `in`.
 declarations_passed : (ds : List Token) → AllQuiet ds → (os : List Open) (i : ℕ) (rest : List Token)
-    → nesting (inDeclarations ∷ os) i (ds ++ structure keywordIn ∷ rest) ≡ nesting (in_body ∷ os) (suc (i + length ds)) rest
+    → nesting (in_declarations ∷ os) i (ds ++ structure keyword_in ∷ rest) ≡ nesting (in_body ∷ os) (suc (i + length ds)) rest
 unfolding moved move within close_innermost
 declarations_passed ds q os i rest =
-    skipped_quiet ds q os i (structure keywordIn ∷ rest)
-    ∙ nesting_step (inDeclarations ∷ os) (i + length ds) (structure keywordIn) rest (becomes in_body) refl tt
+    skipped_quiet ds q os i (structure keyword_in ∷ rest)
+    ∙ nesting_step (in_declarations ∷ os) (i + length ds) (structure keyword_in) rest (becomes in_body) refl tt
 
 skipped_pair : (d : ℕ) (ts : List Token) → Skipped d ts → Skipped (suc d) (structure opening ∷ ts ++ structure closing ∷ [])
 unfolding moved within
@@ -143,17 +143,17 @@ skipped_pair d ts p os r h i rest =
     ∙ (skipped_closer d ts p in_bracket closing os tt refl (omega arith) (suc i) rest ∙ ap (λ k. nesting os k rest) (omega arith)))
 
 block_tokens : (ds ts rest : List Token)
-    → (ds ++ structure keywordIn ∷ ts ++ structure keywordEnd ∷ []) ++ rest ≡ ds ++ structure keywordIn ∷ (ts ++ structure keywordEnd ∷ rest)
+    → (ds ++ structure keyword_in ∷ ts ++ structure keyword_end ∷ []) ++ rest ≡ ds ++ structure keyword_in ∷ (ts ++ structure keyword_end ∷ rest)
 block_tokens ds ts rest = simp append_assoc
 
 skipped_block : (d : ℕ) (ds ts : List Token) → AllQuiet ds → Skipped d ts
-    → Skipped (suc d) (structure keywordLet ∷ ds ++ structure keywordIn ∷ ts ++ structure keywordEnd ∷ [])
+    → Skipped (suc d) (structure keyword_let ∷ ds ++ structure keyword_in ∷ ts ++ structure keyword_end ∷ [])
 unfolding moved within
 skipped_block d ds ts q p os r h i rest =
-    rw (block_tokens ds ts rest, length-append (ds ++ structure keywordIn ∷ ts) (structure keywordEnd ∷ []), length-append ds (structure keywordIn ∷ ts))
-    (nesting_step os i (structure keywordLet) (ds ++ structure keywordIn ∷ (ts ++ structure keywordEnd ∷ rest)) (enters inDeclarations) (let_enters os r) (omega arith)
-    ∙ (declarations_passed ds q os (suc i) (ts ++ structure keywordEnd ∷ rest)
-    ∙ (skipped_closer d ts p in_body keywordEnd os tt refl (omega arith) (suc (suc i + length ds)) rest
+    rw (block_tokens ds ts rest, length-append (ds ++ structure keyword_in ∷ ts) (structure keyword_end ∷ []), length-append ds (structure keyword_in ∷ ts))
+    (nesting_step os i (structure keyword_let) (ds ++ structure keyword_in ∷ (ts ++ structure keyword_end ∷ rest)) (enters in_declarations) (let_enters os r) (omega arith)
+    ∙ (declarations_passed ds q os (suc i) (ts ++ structure keyword_end ∷ rest)
+    ∙ (skipped_closer d ts p in_body keyword_end os tt refl (omega arith) (suc (suc i + length ds)) rest
     ∙ ap (λ k. nesting os k rest) (omega arith))))
 
 -- A tree needs no more room than its depth.
@@ -192,13 +192,13 @@ fits_pair d ts f os r h i rest e =
     omega arith
 
 fits_block : (d : ℕ) (ds ts : List Token) → AllQuiet ds → Fits d ts
-    → Fits (suc d) (structure keywordLet ∷ ds ++ structure keywordIn ∷ ts ++ structure keywordEnd ∷ [])
+    → Fits (suc d) (structure keyword_let ∷ ds ++ structure keyword_in ∷ ts ++ structure keyword_end ∷ [])
 unfolding moved
 fits_block d ds ts q f os r h i rest e =
-    let a = nesting-after os i (structure keywordLet) (ds ++ structure keywordIn ∷ ts ++ structure keywordEnd ∷ [] ++ rest) (enters inDeclarations) (let_enters os r) e in
+    let a = nesting-after os i (structure keyword_let) (ds ++ structure keyword_in ∷ ts ++ structure keyword_end ∷ [] ++ rest) (enters in_declarations) (let_enters os r) e in
     let g : suc (length os) + d ≤ deepest =
-    f (in_body ∷ os) tt a.0 (suc (suc i + length ds)) (structure keywordEnd ∷ rest)
-    (rw (block_tokens ds ts rest, declarations_passed ds q os (suc i) (ts ++ structure keywordEnd ∷ rest)) at a.1) in
+    f (in_body ∷ os) tt a.0 (suc (suc i + length ds)) (structure keyword_end ∷ rest)
+    (rw (block_tokens ds ts rest, declarations_passed ds q os (suc i) (ts ++ structure keyword_end ∷ rest)) at a.1) in
     omega arith
 
 fits_node : (d e : ℕ) (xs ys : List Token) (m : Bytes) → Skipped d xs → Fits d xs → Fits e ys → Fits (max d e) (xs ++ atom (symbol m) ∷ ys)

@@ -9,8 +9,8 @@ use native.Mathlib.Omega.{arith}
 use lib.Dec.{ltb}
 use lib.ListN.{length, length-append}
 use borrow.Author.Tests.{ltb-true, ltb-false, le-ltb}
-use Rattle.grammar.specs.Token.{opening, closing, semicolon, keywordLet, keywordIn, keywordEnd, Token, atom, structure}
-use Rattle.grammar.specs.Open.{Open, in_bracket, inDeclarations, in_body, Fits, deepest, OpenAfter, at_first, behind_token}
+use Rattle.grammar.specs.Token.{opening, closing, semicolon, keyword_let, keyword_in, keyword_end, Token, atom, structure}
+use Rattle.grammar.specs.Open.{Open, in_bracket, in_declarations, in_body, Fits, deepest, OpenAfter, at_first, behind_token}
 use Rattle.grammar.specs.Open.{an_atom, opens, closes, separates, begins, declared, ends}
 use Rattle.grammar.specs.Outcome.{Outcome, refused, passed}
 use Rattle.grammar.specs.Nesting.{Move, stays, enters, becomes, leaves, outermost, within, move, close_innermost, nesting}
@@ -25,27 +25,27 @@ fits_or_broken os (atom a) = inl an_atom
 fits_or_broken [] (structure opening) = inl (opens tt)
 fits_or_broken [] (structure closing) = inr refl
 fits_or_broken [] (structure semicolon) = inr refl
-fits_or_broken [] (structure keywordLet) = inl (begins tt)
-fits_or_broken [] (structure keywordIn) = inr refl
-fits_or_broken [] (structure keywordEnd) = inr refl
+fits_or_broken [] (structure keyword_let) = inl (begins tt)
+fits_or_broken [] (structure keyword_in) = inr refl
+fits_or_broken [] (structure keyword_end) = inr refl
 fits_or_broken (in_bracket ∷ os) (structure opening) = inl (opens tt)
 fits_or_broken (in_bracket ∷ os) (structure closing) = inl closes
 fits_or_broken (in_bracket ∷ os) (structure semicolon) = inr refl
-fits_or_broken (in_bracket ∷ os) (structure keywordLet) = inl (begins tt)
-fits_or_broken (in_bracket ∷ os) (structure keywordIn) = inr refl
-fits_or_broken (in_bracket ∷ os) (structure keywordEnd) = inr refl
-fits_or_broken (inDeclarations ∷ os) (structure opening) = inr refl
-fits_or_broken (inDeclarations ∷ os) (structure closing) = inr refl
-fits_or_broken (inDeclarations ∷ os) (structure semicolon) = inl separates
-fits_or_broken (inDeclarations ∷ os) (structure keywordLet) = inr refl
-fits_or_broken (inDeclarations ∷ os) (structure keywordIn) = inl declared
-fits_or_broken (inDeclarations ∷ os) (structure keywordEnd) = inr refl
+fits_or_broken (in_bracket ∷ os) (structure keyword_let) = inl (begins tt)
+fits_or_broken (in_bracket ∷ os) (structure keyword_in) = inr refl
+fits_or_broken (in_bracket ∷ os) (structure keyword_end) = inr refl
+fits_or_broken (in_declarations ∷ os) (structure opening) = inr refl
+fits_or_broken (in_declarations ∷ os) (structure closing) = inr refl
+fits_or_broken (in_declarations ∷ os) (structure semicolon) = inl separates
+fits_or_broken (in_declarations ∷ os) (structure keyword_let) = inr refl
+fits_or_broken (in_declarations ∷ os) (structure keyword_in) = inl declared
+fits_or_broken (in_declarations ∷ os) (structure keyword_end) = inr refl
 fits_or_broken (in_body ∷ os) (structure opening) = inl (opens tt)
 fits_or_broken (in_body ∷ os) (structure closing) = inr refl
 fits_or_broken (in_body ∷ os) (structure semicolon) = inr refl
-fits_or_broken (in_body ∷ os) (structure keywordLet) = inl (begins tt)
-fits_or_broken (in_body ∷ os) (structure keywordIn) = inr refl
-fits_or_broken (in_body ∷ os) (structure keywordEnd) = inl ends
+fits_or_broken (in_body ∷ os) (structure keyword_let) = inl (begins tt)
+fits_or_broken (in_body ∷ os) (structure keyword_in) = inr refl
+fits_or_broken (in_body ∷ os) (structure keyword_end) = inl ends
 
 -- A move that is not refused, and what is open behind it.
 abbrev Makes : List Open → Move → List Open → Type 0

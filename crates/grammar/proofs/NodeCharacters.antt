@@ -9,7 +9,7 @@ use native.Mathlib.Nat.{sub-zero}
 use lib.ListN.{length, take, drop, get_or, length-map, get_or-map, get_or-eq_default}
 use lib.Seq.{take-append_seam}
 use Rattle.grammar.specs.Bytes.{Bytes}
-use Rattle.grammar.specs.Token.{Token, structure, symbol, keywordLet, keywordIn, spelling, Atom, as_written}
+use Rattle.grammar.specs.Token.{Token, structure, symbol, keyword_let, keyword_in, spelling, Atom, as_written}
 use Rattle.grammar.specs.Operator.{Fixity, Prefix, Infix, Postfix}
 use Rattle.grammar.specs.Scan.{Placed}
 use Rattle.grammar.specs.Declaration.{Declaration, start_table, all_tokens}
@@ -56,7 +56,7 @@ block_of (node l m r) = none
 -- A list with an entry for each node, in the order of the table.
 module _
     {A : Type 0} (f : Tree → List A) (own : Tree → A) (empty : f nothing ≡ []) (at_leaf : (a : Atom) → f (leaf a) ≡ own (leaf a) ∷ [])
-    (at_Bracket : (t : Tree) → f (bracket t) ≡ f t ++ own (bracket t) ∷ [])
+    (at_bracket : (t : Tree) → f (bracket t) ≡ f t ++ own (bracket t) ∷ [])
     (at_block : (ds : List Declaration) (t : Tree) → f (block ds t) ≡ f t ++ own (block ds t) ∷ [])
     (at-node : (l : Tree) (m : Bytes) (r : Tree) → f (node l m r) ≡ f l ++ (f r ++ own (node l m r) ∷ [])) where
   behind : (ts : List Tree) (u : Tree) (v : List A) → map own ts ≡ v → map own (ts ++ u ∷ []) ≡ v ++ own u ∷ []
@@ -66,7 +66,7 @@ module _
   unfolding subtrees
   listed nothing = sym empty
   listed (leaf t) = sym (at_leaf t)
-  listed (bracket t) = behind (subtrees t) (bracket t) (f t) (listed t) ∙ sym (at_Bracket t)
+  listed (bracket t) = behind (subtrees t) (bracket t) (f t) (listed t) ∙ sym (at_bracket t)
   listed (block ds t) = behind (subtrees t) (block ds t) (f t) (listed t) ∙ sym (at_block ds t)
   listed (node l m r) =
       map-append own (subtrees l) (subtrees r ++ node l m r ∷ [])
@@ -118,13 +118,13 @@ gives_block (node l m r) s ds g e = impossible cc
 module _ (text : Bytes) (o : ℕ → ℕ) where
   -- The text of a block from `let` to `in`.
   let_to_in_lem :
-      (ds : List Declaration) (i : ℕ) → Stand text o i (structure keywordLet ∷ all_tokens ds ++ structure keywordIn ∷ [])
+      (ds : List Declaration) (i : ℕ) → Stand text o i (structure keyword_let ∷ all_tokens ds ++ structure keyword_in ∷ [])
       → FromLetToIn ds (take (o (suc (i + length (all_tokens ds))) + 2 - o i) (drop (o i) text))
   unfolding spelling
   let_to_in_lem ds i h = subst (FromLetToIn ds) (sym whole) (record { begins = p.begins; ends = (p.front, p.ends); spells = p.spells })
     where
-      p : Part text o i (structure keywordLet ∷ all_tokens ds) (structure keywordIn)
-      p = part text o i (structure keywordLet ∷ all_tokens ds) (structure keywordIn) h
+      p : Part text o i (structure keyword_let ∷ all_tokens ds) (structure keyword_in)
+      p = part text o i (structure keyword_let ∷ all_tokens ds) (structure keyword_in) h
 
       number : o (suc (i + length (all_tokens ds))) ≡ o (i + suc (length (all_tokens ds)))
       number = ap o (omega arith)

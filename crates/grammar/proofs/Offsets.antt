@@ -20,9 +20,9 @@ use Rattle.grammar.specs.Token.{
   opening,
   closing,
   semicolon,
-  keywordLet,
-  keywordIn,
-  keywordEnd,
+  keyword_let,
+  keyword_in,
+  keyword_end,
   spelling,
   is_token,
   Atom,
@@ -204,6 +204,6 @@ unfolding token_of kind_of structure_number
 structure_coded opening c = refl
 structure_coded closing c = refl
 structure_coded semicolon c = refl
-structure_coded keywordLet c = refl
-structure_coded keywordIn c = refl
-structure_coded keywordEnd c = refl
+structure_coded keyword_let c = refl
+structure_coded keyword_in c = refl
+structure_coded keyword_end c = refl

@@ -24,8 +24,8 @@ pub record IsReading (ts : List Token) (t : Tree) : Type 0 where
   pub inner : InnerChecked start_table t
 
 -- Of some tokens it is their tree, ..
-pub of_tree : {ts : List Token} {t : Tree} → IsCheckedTree start_table ts t → IsReading ts t
-of_tree h = record { tokens = h.tokens; admitted = h.outer.0; inner = h.inner }
+pub of_tree_lem : {ts : List Token} {t : Tree} → IsCheckedTree start_table ts t → IsReading ts t
+of_tree_lem h = record { tokens = h.tokens; admitted = h.outer.0; inner = h.inner }
 
 pub is_tree_lem : {ts : List Token} {t : Tree} → 0 < length ts → IsReading ts t → IsCheckedTree start_table ts t
 is_tree_lem {t = t} l h =

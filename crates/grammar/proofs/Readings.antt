@@ -29,7 +29,7 @@ use Rattle.grammar.specs.Claim.{HasNoTree}
 use Rattle.grammar.proofs.Scanned.{length_tokens}
 use Rattle.grammar.proofs.CheckedTrees.{IsCheckedTree, checked_tree}
 use Rattle.grammar.proofs.BlocksLawful.{tree_checked}
-use Rattle.grammar.proofs.ReadingTrees.{IsReading, of_tree, of_none, reading_complete}
+use Rattle.grammar.proofs.ReadingTrees.{IsReading, of_tree_lem, of_none, reading_complete}
 use Rattle.grammar.proofs.Lists.{all_right, all_member}
 use Rattle.grammar.proofs.ClimbExact.{climb_sound, climb_complete}
 use Rattle.grammar.proofs.Operators.{positive_start}
@@ -132,7 +132,7 @@ reading_sound text ps h [] q t e = let b : t ≡ blank_rule = cc in rw b of_none
 reading_sound text ps h (x ∷ ts) q t e =
     let found : tree_of start_table (tokens_of ps) ≡ some t = rw q e in
     rw q at
-    (of_tree
+    (of_tree_lem
     (tree_in_sound (suc (length (tokens_of ps))) (suc (length ps)) start_table (permitted-start, positive_start) 0 (tokens_of ps) t (nested_tokens text ps h)
     (rw (length_tokens ps) (omega arith)) h.declared found))
 
@@ -323,7 +323,7 @@ refused_treeless text p e = let (ps, h) = eleven_past text p e in go ps h
     go [] h = let g = read_as text [] h blank_rule of_none in impossible cc
     go (x ∷ xs) h =
         let never : (t : Tree) → IsTree start_table (tokens_of (x ∷ xs)) t → ⊥ =
-        λ t i. let g = read_as text (x ∷ xs) h t (of_tree (text_checked text (x ∷ xs) h t i)) in impossible cc in
+        λ t i. let g = read_as text (x ∷ xs) h t (of_tree_lem (text_checked text (x ∷ xs) h t i)) in impossible cc in
         let (q, f, first) = treeless_refused text x xs h never in
         let same : q ≡ p = refused_place f e in
         (x, xs, h, never, rw same at first)

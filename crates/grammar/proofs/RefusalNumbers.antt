@@ -40,7 +40,7 @@ use Rattle.grammar.specs.Declaration.{
   enter_with,
   enter,
 }
-use Rattle.grammar.specs.Span.{Item, single, pair, scope, items}
+use Rattle.grammar.specs.Span.{item_tokens, Item, single, pair, scope, items}
 use Rattle.grammar.specs.Blocks.{check_item, check_items, check_blocks}
 
 module _ {A : Type 0} where
@@ -200,7 +200,7 @@ module _ (inner : Table → ℕ → List Token → Outcome (Unit {0})) (numbered
   unfolding check_items
   check_items_numbered T i [] = tt
   check_items_numbered T i (x ∷ xs) =
-      numbered_and_then OfBlocks (check_item inner T i x) _ (check_item_numbered T i x) (λ u. check_items_numbered _ _ xs)
+      numbered_and_then OfBlocks (check_item inner T i x) _ (check_item_numbered T i x) (λ u. check_items_numbered T (i + length (item_tokens x)) xs)
 
 pub blocks_numbered : (k : ℕ) (T : Table) (i : ℕ) (ts : List Token) → Numbered OfBlocks (check_blocks k T i ts)
 unfolding check_blocks

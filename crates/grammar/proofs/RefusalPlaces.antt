@@ -10,7 +10,7 @@ use lib.Dec.{ltb}
 use lib.ListN.{length, length-append}
 use Rattle.grammar.specs.Open.{Open, deepest}
 use Rattle.grammar.specs.Bytes.{Bytes, same}
-use Rattle.grammar.specs.Token.{structure, Token, closing, keywordIn, keywordEnd}
+use Rattle.grammar.specs.Token.{structure, Token, closing, keyword_in, keyword_end}
 use Rattle.grammar.specs.Outcome.{Outcome, refused, passed}
 use Rattle.grammar.specs.Operator.{Fixity, Associativity, Table, permitted}
 use Rattle.grammar.specs.Nesting.{Move, stays, broken, enters, becomes, leaves, move, close_innermost, nesting}
@@ -162,8 +162,8 @@ module _ (m : ℕ) where
     check_item_below T i (single t) n h = tt
     check_item_below T i (pair ts) n h = below T (suc i) ts n (omega (arith, length-append ts (structure closing ∷ [])))
     check_item_below T i (scope ds ts) n h =
-        let e = length-append (ds ++ structure keywordIn ∷ ts) (structure keywordEnd ∷ []) in
-        let f = length-append ds (structure keywordIn ∷ ts) in
+        let e = length-append (ds ++ structure keyword_in ∷ ts) (structure keyword_end ∷ []) in
+        let f = length-append ds (structure keyword_in ∷ ts) in
         refuses-and_then (λ n p. p < m) (enter (length ds) T (suc i) ds) _ (enter_below (length ds) T (suc i) ds (omega arith))
         (λ U. below U (suc (suc (i + length ds))) ts n.1 (omega arith))
 

@@ -43,7 +43,7 @@ use Rattle.grammar.specs.Declaration.{
   Free,
 }
 use Rattle.grammar.specs.Span.{pair, scope, items}
-use Rattle.grammar.specs.Spans.{Span, SpanIn, itself, in_pair, in_body, SpanOf}
+use Rattle.grammar.specs.Spans.{Span, pair_span, body_span, SpanIn, itself, in_pair, in_body, SpanOf}
 use Rattle.grammar.specs.Blocks.{body_table}
 use Rattle.grammar.specs.Fault.{Past}
 use Rattle.grammar.specs.Answer.{tokens_of}
@@ -83,11 +83,11 @@ module _ (m : Bytes) (reserved : is_reserved m ≡ true) (f : Fixity) where
   span_keeps h zero ts c p = absurd (omega arith)
   span_keeps itself (suc k) ts c p = refl
   span_keeps {s} (in_pair xs us ys ks e i h) (suc k) ts c p =
-      span_keeps h k us (items-only us ks i) (past_at k s.table ts xs (pair us) ys p (sym c ∙ e))
+      span_keeps {s = pair_span s xs ks} h k us (items-only us ks i) (past_at k s.table ts xs (pair us) ys p (sym c ∙ e))
   span_keeps {s} (in_body xs ds us ys ks e i h) (suc k) ts c p =
       let (d, q, free) = past_at k s.table ts xs (scope (all_tokens ds) us) ys p (sym c ∙ e) in
       let t = declarations_told (declarations (all_tokens ds)) ds d in
-      span_keeps h k us (items-only us ks i) (rw t at q) ∙ declarations_keep s.table ds (rw t at free)
+      span_keeps {s = body_span s xs ds ks} h k us (items-only us ks i) (rw t at q) ∙ declarations_keep s.table ds (rw t at free)
 
   pub reserved_roles : (text : Bytes) (ts : List Token) → Past text ts → (s : Span) → SpanOf ts s → role s.table m f ≡ role start_table m f
   reserved_roles text ts past s (is, i, h) =

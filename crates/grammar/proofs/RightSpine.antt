@@ -23,8 +23,8 @@ use Rattle.grammar.specs.SpanTree.{
   root_precedence,
   is_left,
   right_root,
-  onLeft,
-  onRight,
+  on_left,
+  on_right,
   admits_equal,
   Admitted,
 }
@@ -50,13 +50,13 @@ GivesWay o p = (root_precedence o ≤ p) × (root_precedence o ≡ p → right_r
 pub left_gives : {T : Table} {l : SpanTree} {m : Bytes} {r : SpanTree} (c : AdmittingRole T l m r) → GivesWay (root T l) c.own.precedence
 unfolding admits_equal
 left_gives {T} {l} c =
-    let f = admits-cases onLeft c.own (root T l) c.left_fits in
+    let f = admits-cases on_left c.own (root T l) c.left_fits in
     let not_right = and_right (is_left c.own.associativity) (not (right_root (root T l))) in
     (f.0, λ x. not-true (right_root (root T l)) (not_right (f.1 x)))
 
 pub keeps_right : {T : Table} {l : SpanTree} {m : Bytes} {r : SpanTree} (c : AdmittingRole T l m r) → Keeps c.own (root_precedence (root T r))
 unfolding admits_equal
-keeps_right {T} {l} {m} {r} c = admits-cases onRight c.own (root T r) c.right_fits
+keeps_right {T} {l} {m} {r} c = admits-cases on_right c.own (root T r) c.right_fits
 
 -- The right spine of a tree: the operators that still wait when all its items have come, and what stands at its end.
 unfoldable pub spine : SpanTree → Stack → Stack

@@ -24,7 +24,7 @@ use Rattle.grammar.specs.Claim.{BlocksLawful, HasNoTree, SpanPlace, FirstWithout
 use Rattle.grammar.proofs.Scanned.{length_tokens}
 use Rattle.grammar.proofs.BlocksLawful.{blocks_lawful}
 use Rattle.grammar.proofs.CheckedTrees.{checked_tree}
-use Rattle.grammar.proofs.ReadingTrees.{IsReading, of_tree, is_tree_lem, of_none, is_blank_lem}
+use Rattle.grammar.proofs.ReadingTrees.{IsReading, of_tree_lem, is_tree_lem, of_none, is_blank_lem}
 use Rattle.grammar.proofs.Logic.{impossible}
 use Rattle.grammar.proofs.SpanOrder.{opener_within}
 use Rattle.grammar.proofs.TokenFaults.{token_at}
@@ -53,7 +53,7 @@ pub read_of : (text : Bytes) (t : Tree) → ReadingOf text t → (r : Reading) �
 read_of text t (of_tree h) =
     let (ps, c, q) = past_checked text h.tokens h.past in
     let i : IsTree start_table (tokens_of ps) t = rw q h.is_tree in
-    (record { tokens = ps; tree = t }, read_as text ps c t (of_tree (text_checked text ps c t i)), refl)
+    (record { tokens = ps; tree = t }, read_as text ps c t (of_tree_lem (text_checked text ps c t i)), refl)
 read_of text t (of_blank b) =
     let (ps, c, q) = blank_checked text b in
     (record { tokens = ps; tree = blank_rule }, read_as text ps c blank_rule (rw q of_none), refl)

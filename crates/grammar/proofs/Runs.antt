@@ -32,9 +32,9 @@ use Rattle.grammar.specs.Token.{
   opening,
   closing,
   semicolon,
-  keywordLet,
-  keywordIn,
-  keywordEnd,
+  keyword_let,
+  keyword_in,
+  keyword_end,
   spelling,
   is_keyword,
   is_word,
@@ -291,6 +291,6 @@ front-spelled (atom (quoted c)) e s h =
 front-spelled (structure opening) e s h = refl
 front-spelled (structure closing) e s h = refl
 front-spelled (structure semicolon) e s h = refl
-front-spelled (structure keywordLet) e s h = front-run words (bytes "let") s refl (omega arith) h
-front-spelled (structure keywordIn) e s h = front-run words (bytes "in") s refl (omega arith) h
-front-spelled (structure keywordEnd) e s h = front-run words (bytes "end") s refl (omega arith) h
+front-spelled (structure keyword_let) e s h = front-run words (bytes "let") s refl (omega arith) h
+front-spelled (structure keyword_in) e s h = front-run words (bytes "in") s refl (omega arith) h
+front-spelled (structure keyword_end) e s h = front-run words (bytes "end") s refl (omega arith) h

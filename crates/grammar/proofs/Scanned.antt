@@ -26,9 +26,9 @@ use Rattle.grammar.specs.Token.{
   opening,
   closing,
   semicolon,
-  keywordLet,
-  keywordIn,
-  keywordEnd,
+  keyword_let,
+  keyword_in,
+  keyword_end,
   spelling,
   is_word,
   is_token,
@@ -92,9 +92,9 @@ space_stops (atom (quoted c)) s = refl
 space_stops (structure opening) s = refl
 space_stops (structure closing) s = refl
 space_stops (structure semicolon) s = refl
-space_stops (structure keywordLet) s = refl
-space_stops (structure keywordIn) s = refl
-space_stops (structure keywordEnd) s = refl
+space_stops (structure keyword_let) s = refl
+space_stops (structure keyword_in) s = refl
+space_stops (structure keyword_end) s = refl
 
 -- The spellings of tokens with one space before each.
 abbrev spaced : List Token → Bytes

@@ -8,7 +8,7 @@ use Prim.Native.Nat.{ℕ, zero, suc, ◌+◌, ◌≤◌, ◌<◌}
 use native.Mathlib.Omega.{arith}
 use lib.ListN.{length, length-append}
 use Rattle.grammar.specs.Spans.{Span, start_of}
-use Rattle.grammar.specs.Token.{structure, Token, closing, keywordIn, keywordEnd}
+use Rattle.grammar.specs.Token.{structure, Token, closing, keyword_in, keyword_end}
 use Rattle.grammar.specs.Outcome.{passed}
 use Rattle.grammar.specs.Operator.{Table}
 use Rattle.grammar.specs.Nesting.{nesting}
@@ -49,8 +49,8 @@ module _ (inner : Table → Option ℕ → ℕ → List Token → List Span) (or
       let e = length-append ts (structure closing ∷ []) in
       ascending_wider (inner T (some i) (suc i) ts) (omega arith) (omega arith) (ordered T (some i) ts 0 (n 0))
   item_ordered T i (scope ds ts) n =
-      let e = length-append (ds ++ structure keywordIn ∷ ts) (structure keywordEnd ∷ []) in
-      let f = length-append ds (structure keywordIn ∷ ts) in
+      let e = length-append (ds ++ structure keyword_in ∷ ts) (structure keyword_end ∷ []) in
+      let f = length-append ds (structure keyword_in ∷ ts) in
       let j = suc (i + length ds) in
       ascending_wider (inner (body_table T ds) (some j) (suc j) ts) (omega arith) (omega arith) (ordered (body_table T ds) (some j) ts 0 (n.1 0))
 
@@ -73,7 +73,7 @@ spans_ordered (suc k) T o ts i n =
     (omega arith, rw (items_tokens ts i n) at (items_ordered (spans k) (spans_ordered k) T (start_of o) (items ts) (items_nested ts i n)))
 
 -- No span of an ascending list starts before its lower bound.
-ascending_member : (low high : ℕ) {s : Span} {ss : List Span} → Memᴰ s ss → Ascending low high ss → low ≤ start_of s.opener
+ascending_member : {s : Span} (low high : ℕ) {ss : List Span} → Memᴰ s ss → Ascending low high ss → low ≤ start_of s.opener
 ascending_member low high (Memᴰ.head e) a = rw e a.0
 ascending_member low high (Memᴰ.tail {x = x} m) a =
     let h = ascending_member (suc (start_of x.opener)) high m a.1 in
@@ -84,7 +84,7 @@ ascending_bound : (low high : ℕ) (ss : List Span) → Ascending low high ss �
 ascending_bound low high [] a = a
 ascending_bound low high (s ∷ ss) a = let h = ascending_bound (suc (start_of s.opener)) high ss a.1 in omega (arith, a.0)
 
-ascending_below : (low high : ℕ) {s : Span} {ss : List Span} → Memᴰ s ss → Ascending low high ss → start_of s.opener < high
+ascending_below : {s : Span} (low high : ℕ) {ss : List Span} → Memᴰ s ss → Ascending low high ss → start_of s.opener < high
 ascending_below low high (Memᴰ.head {x = x} {xs = xs} e) a =
     let h = ascending_bound (suc (start_of x.opener)) high xs a.1 in
     rw e (omega arith)
@@ -97,7 +97,7 @@ opener_within k T ts n s m = omega (arith, ascending_below 0 (suc (0 + length ts
 
 -- Two spans that start at one token are the same.
 ascending_same :
-    (low high : ℕ) {s r : Span} {ss : List Span} → Memᴰ s ss → Memᴰ r ss → Ascending low high ss
+    {s r : Span} (low high : ℕ) {ss : List Span} → Memᴰ s ss → Memᴰ r ss → Ascending low high ss
     → start_of s.opener ≡ start_of r.opener → s ≡ r
 ascending_same low high (Memᴰ.head e) (Memᴰ.head f) a q = cc
 ascending_same low high (Memᴰ.head {x = x} e) (Memᴰ.tail m) a q =
@@ -131,8 +131,8 @@ module _ (inner : Table → Option ℕ → ℕ → List Token → List Span) (en
       let e = length-append ts (structure closing ∷ []) in
       ends_later (inner T (some i) (suc i) ts) (omega arith) (ends T (some i) ts 0 (n 0))
   item_ends T i (scope ds ts) n =
-      let e = length-append (ds ++ structure keywordIn ∷ ts) (structure keywordEnd ∷ []) in
-      let f = length-append ds (structure keywordIn ∷ ts) in
+      let e = length-append (ds ++ structure keyword_in ∷ ts) (structure keyword_end ∷ []) in
+      let f = length-append ds (structure keyword_in ∷ ts) in
       let j = suc (i + length ds) in
       ends_later (inner (body_table T ds) (some j) (suc j) ts) (omega arith) (ends (body_table T ds) (some j) ts 0 (n.1 0))
 
@@ -169,10 +169,10 @@ unfolding first_without
 first_without_later x ss o t h e = rw (h, first_without) at e
 
 -- No span without a tree starts before the first one of an ascending list.
-first_ascending : (low high : ℕ) {s : Span} {ss : List Span} → Memᴰ s ss → Ascending low high ss → climb s.table s.contents ≡ none
+first_ascending : {s : Span} (low high : ℕ) {ss : List Span} → Memᴰ s ss → Ascending low high ss → climb s.table s.contents ≡ none
     → (o : Option ℕ) → first_without ss ≡ some o → start_of o ≤ start_of s.opener
 first_ascending low high (Memᴰ.head {x = x} {xs = xs} e) a t o f = rw (first_without_here x xs o (rw e at t) f, e) (omega arith)
-first_ascending low high {s} (Memᴰ.tail {x = x} {xs = xs} m) a t o f =
+first_ascending {s} low high (Memᴰ.tail {x = x} {xs = xs} m) a t o f =
     split (first_ascending (suc (start_of x.opener)) high m a.1 t o) (climb x.table x.contents) refl
   where
     split : (first_without xs ≡ some o → start_of o ≤ start_of s.opener) → (r : Option SpanTree) → climb x.table x.contents ≡ r

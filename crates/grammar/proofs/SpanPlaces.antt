@@ -6,7 +6,7 @@ use Prim.Native.Nat.{ℕ, suc, ◌+◌, ◌≤◌}
 use native.Mathlib.Omega.{arith}
 use lib.ListN.{length, length-append}
 use Rattle.grammar.specs.Bytes.{Bytes}
-use Rattle.grammar.specs.Token.{Token, atom, structure, symbol, closing, keywordIn, keywordEnd}
+use Rattle.grammar.specs.Token.{Token, atom, structure, symbol, closing, keyword_in, keyword_end}
 use Rattle.grammar.specs.Operator.{Table}
 use Rattle.grammar.specs.Declaration.{Declaration, start_table, declare_all, all_tokens}
 use Rattle.grammar.specs.Span.{Item, single, item_tokens, all_item_tokens, ItemsOf, empty, own, inner, body}
@@ -24,7 +24,7 @@ items-append empty h = h
 items-append (own g) h = own (items-append g h)
 items-append {vs = vs} (inner {us} {ts} g k) h = rw (append_assoc us (structure closing ∷ ts) vs) (inner g (items-append k h))
 items-append {vs = vs} (body {ds} {us} {ts} q g k) h =
-    rw (append_assoc (ds ++ structure keywordIn ∷ us) (structure keywordEnd ∷ ts) vs) (body q g (items-append k h))
+    rw (append_assoc (ds ++ structure keyword_in ∷ us) (structure keyword_end ∷ ts) vs) (body q g (items-append k h))
 
 tree_items : (t : Tree) → ItemsOf (flat t) (yield (span_tree t))
 unfolding flat yield span_tree
@@ -78,9 +78,9 @@ in_text_lem {t = t} e =
     alone (whole_span is) (is, subst (λ us. ItemsOf us is) e (tree_items t), itself) refl refl refl (omega (arith, ap length e))
 
 module _ {ts : List Token} {T : Table} {i : ℕ} where
-  pub in_pair : {t : Tree} → InSpan ts T (bracket t) i → InSpan ts T t (suc i)
+  pub in_pair_lem : {t : Tree} → InSpan ts T (bracket t) i → InSpan ts T t (suc i)
   unfolding all_item_tokens yield span_tree
-  in_pair {t} h =
+  in_pair_lem {t} h =
       let ks = yield (span_tree t) in
       alone (pair_span h.span h.before ks)
       (span_deeper h.among (in_pair h.before (flat t) h.after ks h.cut (tree_items t) itself))

@@ -124,11 +124,11 @@ in_listed h zero ts c p = absurd (omega arith)
 in_listed {s} itself (suc k) ts c p = itself_listed k s ts c
 in_listed {s} (in_pair xs us ys ks e i h) (suc k) ts c p =
     let q = past_at k s.table ts xs (pair us) ys p (sym c ∙ e) in
-    inside_listed k s ts xs (pair us) ys (sym c ∙ e) (in_listed h k us (items-only us ks i) q)
+    inside_listed k s ts xs (pair us) ys (sym c ∙ e) (in_listed {s = pair_span s xs ks} h k us (items-only us ks i) q)
 in_listed {s} (in_body xs ds us ys ks e i h) (suc k) ts c p =
     let (d, q, free) = past_at k s.table ts xs (scope (all_tokens ds) us) ys p (sym c ∙ e) in
     let t = declarations_told (declarations (all_tokens ds)) ds d in
-    inside_listed k s ts xs (scope (all_tokens ds) us) ys (sym c ∙ e) (rw t (in_listed h k us (items-only us ks i) (rw t at q)))
+    inside_listed k s ts xs (scope (all_tokens ds) us) ys (sym c ∙ e) (rw t (in_listed {s = body_span s xs ds ks} h k us (items-only us ks i) (rw t at q)))
 
 -- What is listed for a span is a span in it: by induction on the fuel.
 abbrev ListedIn : ℕ → Type 0

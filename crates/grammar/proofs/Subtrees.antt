@@ -9,7 +9,7 @@ use native.Mathlib.Omega.{arith}
 use lib.ListN.{length, drop, get_or, length-append, get_or-append}
 use lib.Seq.{append_snoc, drop-append_seam, drop-drop, get_or-drop, get_or-append-add}
 use Rattle.grammar.specs.Bytes.{Bytes}
-use Rattle.grammar.specs.Token.{Atom, Token, atom, structure, symbol, closing, keywordLet, keywordIn, keywordEnd, as_written}
+use Rattle.grammar.specs.Token.{Atom, Token, atom, structure, symbol, closing, keyword_let, keyword_in, keyword_end, as_written}
 use Rattle.grammar.specs.Operator.{Fixity, Prefix, Infix, Postfix, Table}
 use Rattle.grammar.specs.Scan.{Placed}
 use Rattle.grammar.specs.Declaration.{Declaration, start_table, all_tokens, declare_all}
@@ -39,7 +39,7 @@ use Rattle.grammar.proofs.Operands.{Operated, words-length}
 use Rattle.grammar.proofs.Scanned.{length_tokens, scan-tokens}
 use Rattle.grammar.proofs.ReadingTrees.{IsReading, reading_operated}
 use Rattle.grammar.proofs.CheckedTrees.{InnerChecked}
-use Rattle.grammar.proofs.SpanPlaces.{InSpan, in_text_lem, in_pair, in_body_lem, in_left, in_right}
+use Rattle.grammar.proofs.SpanPlaces.{InSpan, in_text_lem, in_pair_lem, in_body_lem, in_left, in_right}
 use Rattle.grammar.proofs.TextTree.{bracket_shorter, block_shorter, left_shorter, right_shorter}
 use Rattle.grammar.proofs.Present.{some_node}
 use Rattle.grammar.proofs.Doubling.{Unquoted}
@@ -157,7 +157,7 @@ module _ (text : Bytes) (ts : List Token) (o : ℕ → ℕ) (ws : List ℕ) wher
       table = s.table;
       admitted = s.checked.0.0;
       checked = s.checked.1;
-      place = in_pair s.place;
+      place = in_pair_lem s.place;
       stands = stand_left text o (suc i) (flat t) (structure closing ∷ []) s.stands.1;
       fits = omega (arith, bracket_shorter t most_tokens s.fits);
       bare = behind_opening text o i s.stands.0;
@@ -176,7 +176,7 @@ module _ (text : Bytes) (ts : List Token) (o : ℕ → ℕ) (ws : List ℕ) wher
     at_in = suc (i + length (all_tokens ds))
 
     abbrev pub let_to_in : List Token
-    let_to_in = structure keywordLet ∷ all_tokens ds ++ structure keywordIn ∷ []
+    let_to_in = structure keyword_let ∷ all_tokens ds ++ structure keyword_in ∷ []
 
     abbrev part_size : ℕ
     part_size = o at_in + 2 - o i
@@ -184,20 +184,20 @@ module _ (text : Bytes) (ts : List Token) (o : ℕ → ℕ) (ws : List ℕ) wher
     tokens_stand : Stand text o i (let_to_in ++ flat t)
     unfolding flat
     tokens_stand =
-        subst (Stand text o i) (sym (append_snoc (structure keywordLet ∷ all_tokens ds) (structure keywordIn) (flat t)))
-        (stand_left text o i (structure keywordLet ∷ all_tokens ds ++ structure keywordIn ∷ flat t) (structure keywordEnd ∷ []) s.stands)
+        subst (Stand text o i) (sym (append_snoc (structure keyword_let ∷ all_tokens ds) (structure keyword_in) (flat t)))
+        (stand_left text o i (structure keyword_let ∷ all_tokens ds ++ structure keyword_in ∷ flat t) (structure keyword_end ∷ []) s.stands)
 
     pub declarations_stand : Stand text o i let_to_in
     declarations_stand = stand_left text o i let_to_in (flat t) tokens_stand
 
-    in_stands : Stand text o at_in (structure keywordIn ∷ [])
+    in_stands : Stand text o at_in (structure keyword_in ∷ [])
     in_stands =
-        subst (λ j. Stand text o j (structure keywordIn ∷ [])) (omega arith)
-        (stand_right text o i (structure keywordLet ∷ all_tokens ds) (structure keywordIn ∷ []) declarations_stand)
+        subst (λ j. Stand text o j (structure keyword_in ∷ [])) (omega arith)
+        (stand_right text o i (structure keyword_let ∷ all_tokens ds) (structure keyword_in ∷ []) declarations_stand)
 
     body_stands : Stand text o (suc at_in) (flat t)
     body_stands =
-        let size = length-append (all_tokens ds) (structure keywordIn ∷ []) in
+        let size = length-append (all_tokens ds) (structure keyword_in ∷ []) in
         subst (λ j. Stand text o j (flat t)) (omega arith) (stand_right text o i let_to_in (flat t) tokens_stand)
 
     block_words : List ℕ

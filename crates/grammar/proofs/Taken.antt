@@ -23,7 +23,7 @@ use Rattle.grammar.specs.Token.{
   between,
   is_blank,
   is_letter,
-  signs as signBytes,
+  signs as sign_bytes,
   begins_word,
   in_word,
   is_quote,
@@ -34,9 +34,9 @@ use Rattle.grammar.specs.Token.{
   opening,
   closing,
   semicolon,
-  keywordLet,
-  keywordIn,
-  keywordEnd,
+  keyword_let,
+  keyword_in,
+  keyword_end,
   spelling,
   is_keyword,
   is_word,
@@ -110,9 +110,9 @@ word_makes w e h = go (same w (bytes "let")) (same w (bytes "in")) (same w (byte
     i = word-run w ∙ e
 
     go : (x y z : Bool) → same w (bytes "let") ≡ x → same w (bytes "in") ≡ y → same w (bytes "end") ≡ z → Makes words w
-    go true y z p q r = makes words w (structure keywordLet) (rw (p, keyword_or_symbol)) refl (sym (same_eq w (bytes "let") p)) refl
-    go false true z p q r = makes words w (structure keywordIn) (rw (p, q, keyword_or_symbol)) refl (sym (same_eq w (bytes "in") q)) refl
-    go false false true p q r = makes words w (structure keywordEnd) (rw (p, q, r, keyword_or_symbol)) refl (sym (same_eq w (bytes "end") r)) refl
+    go true y z p q r = makes words w (structure keyword_let) (rw (p, keyword_or_symbol)) refl (sym (same_eq w (bytes "let") p)) refl
+    go false true z p q r = makes words w (structure keyword_in) (rw (p, q, keyword_or_symbol)) refl (sym (same_eq w (bytes "in") q)) refl
+    go false false true p q r = makes words w (structure keyword_end) (rw (p, q, r, keyword_or_symbol)) refl (sym (same_eq w (bytes "end") r)) refl
     go false false false p q r =
         makes
         words
@@ -235,7 +235,7 @@ solo b =
     branch (Solo b) (is_letter b) _ _ (λ e. omega arith) (
     branch (Solo b) (between 48 57 b) _ _ (λ e. omega arith) (
     branch (Solo b) (eqb b 95) _ _ (λ e. omega arith) (
-    branch (Solo b) (member b signBytes) _ _ (λ e. omega arith) (
+    branch (Solo b) (member b sign_bytes) _ _ (λ e. omega arith) (
     branch (Solo b) (eqb b 39) _ _ (λ e. omega (arith, eqb-true b 39 e)) (
     branch (Solo b) (eqb b 40) _ _ (λ e. omega (arith, eqb-true b 40 e)) (
     branch (Solo b) (eqb b 41) _ _ (λ e. omega (arith, eqb-true b 41 e)) (

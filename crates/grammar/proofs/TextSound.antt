@@ -6,7 +6,7 @@ use Prim.Native.Nat.{ℕ, zero, suc, ◌+◌, ◌≤◌, ◌<◌}
 use native.Mathlib.Omega.{arith}
 use lib.ListN.{length, length-append}
 use Rattle.grammar.specs.Bytes.{All, Bytes}
-use Rattle.grammar.specs.Token.{atom, structure, Token, symbol, opening, closing, keywordLet, keywordIn, keywordEnd, Atom}
+use Rattle.grammar.specs.Token.{atom, structure, Token, symbol, opening, closing, keyword_let, keyword_in, keyword_end, Atom}
 use Rattle.grammar.specs.Outcome.{passed}
 use Rattle.grammar.specs.Operator.{Table, Permitted}
 use Rattle.grammar.specs.Declaration.{declare_all, declarations, all_tokens, enter}
@@ -58,7 +58,7 @@ pair_within j ts n = omega (arith, length-append ts (structure closing ∷ []))
 
 pub scope_within : (j : ℕ) (ds ts : List Token) → length (item_tokens (scope ds ts)) ≤ j → length ts < j
 unfolding item_tokens
-scope_within j ds ts n = omega (arith, length-append (ds ++ structure keywordIn ∷ ts) (structure keywordEnd ∷ []), length-append ds (structure keywordIn ∷ ts))
+scope_within j ds ts n = omega (arith, length-append (ds ++ structure keyword_in ∷ ts) (structure keyword_end ∷ []), length-append ds (structure keyword_in ∷ ts))
 
 -- The tokens of the items around an operator.
 at_operator :
@@ -95,7 +95,7 @@ hung_block T i ds ts U u n h =
     let d : all_tokens (declarations ds) ≡ ds = g.0 in
     let w : U ≡ declare_all T (declarations ds) = g.2 in (
       rw (e, d),
-      rw (e, d) (sym (append-nil (structure keywordLet ∷ ds ++ structure keywordIn ∷ ts ++ structure keywordEnd ∷ []))),
+      rw (e, d) (sym (append-nil (structure keyword_let ∷ ds ++ structure keyword_in ∷ ts ++ structure keyword_end ∷ []))),
       (g.1, rw w at (permitted_sound U g.3), rw w at h.outer, rw w at h.inner),
     )
 

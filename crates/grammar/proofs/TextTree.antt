@@ -7,7 +7,7 @@ use Prim.Native.Nat.{ℕ, zero, suc, ◌+◌, ◌≤◌, ◌<◌}
 use native.Mathlib.Omega.{arith}
 use lib.ListN.{length, length-append}
 use Rattle.grammar.specs.Bytes.{Bytes}
-use Rattle.grammar.specs.Token.{atom, structure, Token, symbol, closing, keywordIn, keywordEnd}
+use Rattle.grammar.specs.Token.{atom, structure, Token, symbol, closing, keyword_in, keyword_end}
 use Rattle.grammar.specs.Operator.{Table, Permitted}
 use Rattle.grammar.specs.Declaration.{Declaration, declare_all, declarations, all_tokens}
 use Rattle.grammar.specs.Span.{items}
@@ -29,8 +29,8 @@ unfolding flat
 block_shorter ds t k h =
     omega (
       arith,
-      length-append (all_tokens ds ++ structure keywordIn ∷ flat t) (structure keywordEnd ∷ []),
-      length-append (all_tokens ds) (structure keywordIn ∷ flat t),
+      length-append (all_tokens ds ++ structure keyword_in ∷ flat t) (structure keyword_end ∷ []),
+      length-append (all_tokens ds) (structure keyword_in ∷ flat t),
     )
 
 pub left_shorter : (l : Tree) (m : Bytes) (r : Tree) (k : ℕ) → length (flat (node l m r)) ≤ k → length (flat l) ≤ k

@@ -11,7 +11,7 @@ use Rattle.grammar.specs.Outcome.{Outcome, passed, and_then}
 use Rattle.grammar.specs.Operator.{Role, Table}
 use Rattle.grammar.specs.Declaration.{declare_all, all_tokens, enter}
 use Rattle.grammar.specs.Span.{Item, single, items, item_tokens}
-use Rattle.grammar.specs.SpanTree.{yield, Position, onLeft, onRight, admits, root, role_over}
+use Rattle.grammar.specs.SpanTree.{yield, Position, on_left, on_right, admits, root, role_over}
 use Rattle.grammar.specs.Tree.{Tree, nothing, leaf, bracket, block, node, flat, span_tree}
 use Rattle.grammar.specs.Blocks.{check_item, check_items, check_blocks}
 use Rattle.grammar.specs.Canonical.{strip_declaration, fitted, canonical}
@@ -123,6 +123,6 @@ canonical_enters T (block ds t) h e =
     )
 canonical_enters T (node l m r) h e =
     let q = role_over T (span_tree l) m (span_tree r) in (
-      fitted_enters T onLeft q (canonical T l) (canonical_enters T l h.0 e.0),
-      fitted_enters T onRight q (canonical T r) (canonical_enters T r h.1 e.1),
+      fitted_enters T on_left q (canonical T l) (canonical_enters T l h.0 e.0),
+      fitted_enters T on_right q (canonical T r) (canonical_enters T r h.1 e.1),
     )

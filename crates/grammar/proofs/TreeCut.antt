@@ -23,8 +23,8 @@ use Rattle.grammar.specs.SpanTree.{
   role_over,
   root,
   root_precedence,
-  onLeft,
-  onRight,
+  on_left,
+  on_right,
   admits_equal,
   admits,
   admits_both,
@@ -64,14 +64,14 @@ divided {A} (x ∷ xs) ys (c ∷ p) rest e = go (divided xs ys p rest (cc))
 
 -- A role that admits an operand on its right admits each of no wider precedence.
 pub admits_narrower :
-    (q : Role) (o n : Option Role) → admits onRight q o ≡ true → root_precedence n ≤ root_precedence o → admits onRight q n ≡ true
+    (q : Role) (o n : Option Role) → admits on_right q o ≡ true → root_precedence n ≤ root_precedence o → admits on_right q n ≡ true
 unfolding admits admits_equal
 admits_narrower q o n h le = go (ltb (root_precedence n) q.precedence) refl
   where
-    f : (root_precedence o ≤ q.precedence) × (root_precedence o ≡ q.precedence → admits_equal onRight q o ≡ true)
-    f = admits-cases onRight q o h
+    f : (root_precedence o ≤ q.precedence) × (root_precedence o ≡ q.precedence → admits_equal on_right q o ≡ true)
+    f = admits-cases on_right q o h
 
-    go : (b : Bool) → ltb (root_precedence n) q.precedence ≡ b → admits onRight q n ≡ true
+    go : (b : Bool) → ltb (root_precedence n) q.precedence ≡ b → admits on_right q n ≡ true
     go true e = rw e
     go false e =
         let g = ltb-false (root_precedence n) q.precedence e in
@@ -110,7 +110,7 @@ module _ (T : Table) (x : Item) (free : is_operand T x ≡ true) where
   empty_front [] rest e = refl
   empty_front (c ∷ p) rest e = cc
 
-  module _ (l : SpanTree) (m : Bytes) (r : SpanTree) (a : Admitted T (apply l m r)) (cutLeft : Cuts l) (cutRight : Cuts r) where
+  module _ (l : SpanTree) (m : Bytes) (r : SpanTree) (a : Admitted T (apply l m r)) (cut_left : Cuts l) (cut_right : Cuts r) where
     c : AdmittingRole T l m r
     c = admitting_role T l m r a
 
@@ -121,8 +121,8 @@ module _ (T : Table) (x : Item) (free : is_operand T x ≡ true) where
     -- The cut is in the left operand, ..
     within : (i : Item) (p rest : List Item) → yield l ≡ (i ∷ p) ++ rest → CutTree T x (i ∷ p) (root_precedence (root T (apply l m r)))
     within i p rest e =
-        let t = cutLeft i p rest e in
-        let n = (admits-cases onLeft c.own (root T l) c.left_fits).0 in
+        let t = cut_left i p rest e in
+        let n = (admits-cases on_left c.own (root T l) c.left_fits).0 in
         record { tree = t.tree; admitted = t.admitted; there = t.there; yields = t.yields; narrow = omega (arith, whole, t.narrow) }
 
     -- .. or behind the operator, ..
@@ -167,7 +167,7 @@ module _ (T : Table) (x : Item) (free : is_operand T x ≡ true) where
         }
       where
         t : CutTree T x (i ∷ p) (root_precedence (root T r))
-        t = cutRight i p rest e
+        t = cut_right i p rest e
 
         same : present t.tree ≡ present r
         same = t.there ∙ sym (yields_present r i (p ++ rest) e)

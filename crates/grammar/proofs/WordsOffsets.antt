@@ -8,7 +8,7 @@ use lib.ListN.{length, length-append}
 use Rattle.grammar.specs.Bytes.{Bytes}
 use Rattle.grammar.specs.Token.{Atom, as_written}
 use Rattle.grammar.specs.Operator.{Table}
-use Rattle.grammar.specs.Declaration.{Declaration, all_tokens}
+use Rattle.grammar.specs.Declaration.{declare_all, Declaration, all_tokens}
 use Rattle.grammar.specs.SpanTree.{fixity}
 use Rattle.grammar.specs.Tree.{Tree, nothing, leaf, bracket, block, node, flat, span_tree}
 use Rattle.grammar.specs.Nodes.{leaf_kind, operator_words, precedence_over, written_offset, count, node_words, words}
@@ -48,7 +48,7 @@ words_offsets f g T (block ds t) i n h =
     let e = block_size ds t in
     let k = i + length (all_tokens ds) in
     rw (h i (omega arith) (omega arith), h (suc k) (omega arith) (omega arith))
-    (behind (words_offsets f g _ t (suc (suc k)) n (λ j p q. h j (omega arith) (omega arith))) _)
+    (behind (words_offsets f g (declare_all T ds) t (suc (suc k)) n (λ j p q. h j (omega arith) (omega arith))) _)
 words_offsets f g T (node l m r) i n h =
     let e = node-size l m r in
     let k = i + length (flat l) in

@@ -5,7 +5,7 @@ use Rattle.grammar.specs.Bytes.{Bytes, bytes}
 use Rattle.grammar.specs.Token.{Atom, symbol, number, quoted, Token, spelling, is_symbol}
 use Rattle.grammar.specs.Operator.{Role, Table, in_force}
 use Rattle.grammar.specs.Declaration.{Declaration, declares, clears, declare_all}
-use Rattle.grammar.specs.SpanTree.{Position, onLeft, onRight, admits, role_over, root}
+use Rattle.grammar.specs.SpanTree.{Position, on_left, on_right, admits, role_over, root}
 use Rattle.grammar.specs.Tree.{Tree, nothing, leaf, bracket, block, node, flat, span_tree}
 
 -- "Numbers lose leading zeros (0 remains `0`)".
@@ -47,9 +47,9 @@ canonical T (bracket t) = canonical T t
 canonical T (block ds t) = block (map strip_declaration ds) (canonical (declare_all T ds) t)
 canonical T (node l m r) =
     node
-    (fitted T onLeft (role_over T (span_tree l) m (span_tree r)) (canonical T l))
+    (fitted T on_left (role_over T (span_tree l) m (span_tree r)) (canonical T l))
     m
-    (fitted T onRight (role_over T (span_tree l) m (span_tree r)) (canonical T r))
+    (fitted T on_right (role_over T (span_tree l) m (span_tree r)) (canonical T r))
 
 -- Parts with one space before each, and with one between.
 unfoldable pub spaced_pieces : List Bytes → Bytes
@@ -87,5 +87,5 @@ NoSpare T needed (leaf a) = Unit {0}
 NoSpare T needed (bracket t) = (needed ≡ true) × NoSpare T false t
 NoSpare T needed (block ds t) = NoSpare (declare_all T ds) false t
 NoSpare T needed (node l m r) =
-    NoSpare T (refuses onLeft (role_over T (span_tree l) m (span_tree r)) (root T (span_tree (unwrapped l)))) l
-    × NoSpare T (refuses onRight (role_over T (span_tree l) m (span_tree r)) (root T (span_tree (unwrapped r)))) r
+    NoSpare T (refuses on_left (role_over T (span_tree l) m (span_tree r)) (root T (span_tree (unwrapped l)))) l
+    × NoSpare T (refuses on_right (role_over T (span_tree l) m (span_tree r)) (root T (span_tree (unwrapped r)))) r

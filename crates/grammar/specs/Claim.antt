@@ -2,7 +2,7 @@
 use Rattle.std.specs.Prelude.{◌≡◌, true, false, List, [], ◌∷◌, ◌++◌, ℕ, ◌≤◌, length}
 use Rattle.std.proofs.Math.Option.{Option, none, some}
 use Rattle.grammar.specs.Bytes.{Bytes, All}
-use Rattle.grammar.specs.Token.{keywordLet, keywordIn, structure, Atom, symbol, spelling, Token}
+use Rattle.grammar.specs.Token.{keyword_let, keyword_in, structure, Atom, symbol, spelling, Token}
 use Rattle.grammar.specs.Spelling.{Spells, TokenAt}
 use Rattle.grammar.specs.Declaration.{Declaration, all_tokens, start_table, are_declarations, Free, declare_all}
 use Rattle.grammar.specs.Span.{Item}
@@ -35,9 +35,9 @@ node_blocks (node l m r) = node_blocks l ++ (node_blocks r ++ none ∷ [])
 
 -- "a block has `let` to `in` inclusive": text that begins with `let`, ends with `in`, and spells them with the declarations between.
 pub record FromLetToIn (ds : List Declaration) (s : Bytes) : Type 0 where
-  pub begins : (x : Bytes) × (s ≡ spelling (structure keywordLet) ++ x)
-  pub ends : (x : Bytes) × (s ≡ x ++ spelling (structure keywordIn))
-  pub spells : Spells s (structure keywordLet ∷ all_tokens ds ++ structure keywordIn ∷ [])
+  pub begins : (x : Bytes) × (s ≡ spelling (structure keyword_let) ++ x)
+  pub ends : (x : Bytes) × (s ≡ x ++ spelling (structure keyword_in))
+  pub spells : Spells s (structure keyword_let ∷ all_tokens ds ++ structure keyword_in ∷ [])
 
 -- Each block of a tree has allowed declarations, none of a reserved operator, and its operators keep the overloading rule. (Not part of what
 -- a tree is: of a text past checks 1 to 10 and 17 it holds of every tree.)

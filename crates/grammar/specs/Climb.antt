@@ -17,8 +17,8 @@ use Rattle.grammar.specs.SpanTree.{
   role_over,
   root,
   is_right,
-  onLeft,
-  onRight,
+  on_left,
+  on_right,
   admits,
   is_operand,
 }
@@ -93,7 +93,7 @@ takes T (waiting l t w) = is_some (taking T l t)
 -- A prefix operator in the role `c` may come behind one that waits, if the waiting one takes an operand and admits it.
 unfoldable pub admits_prefix : Option Role → Role → Bool
 admits_prefix none c = false
-admits_prefix (some q) c = admits onRight q (some c)
+admits_prefix (some q) c = admits on_right q (some c)
 
 unfoldable pub bears : Table → Stack → Role → Bool
 bears T empty c = true
@@ -106,7 +106,7 @@ fits_below T (some c) w = bears T w c
 -- An operator may come behind an operand, whose root has the role `o`, if it admits that on its left.
 unfoldable pub fits_left : Option Role → Option Role → Bool
 fits_left none o = false
-fits_left (some d) o = admits onLeft d o
+fits_left (some d) o = admits on_left d o
 
 -- The operator `m` has come behind `o`, and those that give way to it have closed; `w` waits below it.
 unfoldable pub arrives : Table → SpanTree → Bytes → Stack → Bool

@@ -1,7 +1,7 @@
 -- Kinds of tokens and fixities as numbers, as the code holds them.
 use Rattle.std.specs.Prelude.{true, false, ℕ, eqb}
 use Rattle.grammar.specs.Bytes.{Bytes}
-use Rattle.grammar.specs.Token.{symbol, number, quoted, opening, closing, semicolon, keywordLet, keywordIn, keywordEnd}
+use Rattle.grammar.specs.Token.{symbol, number, quoted, opening, closing, semicolon, keyword_let, keyword_in, keyword_end}
 use Rattle.grammar.specs.Token.{Token, atom, structure, structure_number, undoubled}
 use Rattle.grammar.specs.Operator.{Fixity, Prefix, Infix, Postfix}
 
@@ -34,9 +34,9 @@ token_of kind w =
                                     | true ↦ structure semicolon
                                     | false ↦
                                         elim (eqb kind 7) [
-                                          | true ↦ structure keywordLet
+                                          | true ↦ structure keyword_let
                                           | false ↦
-                                              elim (eqb kind 8) [ true ↦ structure keywordIn | false ↦ structure keywordEnd ]
+                                              elim (eqb kind 8) [ true ↦ structure keyword_in | false ↦ structure keyword_end ]
                                         ]
                                   ]
                             ]

@@ -3,7 +3,7 @@
 -- What §2 and §9 changed is a parameter, `Rules`, so that what was before can be said too. `Fault` goes by the rules as they are now.
 use Rattle.std.specs.Prelude.{◌≡◌, Bool, true, false, ◌||◌, ◌⊎◌, List, [], ◌∷◌, ◌++◌, ℕ, suc, ◌+◌, ◌≤◌, ◌<◌, length, take}
 use Rattle.grammar.specs.Bytes.{Bytes}
-use Rattle.grammar.specs.Token.{in_number, quote_byte, longest_name, longest_number, symbol, quoted, keywordIn, Token, atom, structure}
+use Rattle.grammar.specs.Token.{in_number, quote_byte, longest_name, longest_number, symbol, quoted, keyword_in, Token, atom, structure}
 use Rattle.grammar.specs.Token.{spelling, is_word, is_sign, is_number, is_token}
 use Rattle.grammar.specs.Spelling.{continues, Stops, Splits, Spells, GoesOn, TokenAt}
 use Rattle.grammar.specs.Open.{Open, Fits, deepest, OpenAfter}
@@ -90,7 +90,7 @@ pub data DeclarationFault (rules : Rules) (T : Table) (ts : List Token) : ℕ �
   -- "8: declaration malformed, level outside 1 to 1200: first unfit token". Behind the last token stands the `in`.
   malformed :
       (ds : List Declaration) (t : Token) (rest : List Token) {U : Table} {k : ℕ} → ts ≡ all_tokens ds ++ t ∷ rest → TakeEffect rules.reserved T ds U
-      → FirstUnfit (t ∷ rest ++ structure keywordIn ∷ []) k → DeclarationFault rules T ts 8 (length (all_tokens ds) + k)
+      → FirstUnfit (t ∷ rest ++ structure keyword_in ∷ []) k → DeclarationFault rules T ts 8 (length (all_tokens ds) + k)
   -- 02, §9: "17, place the mark; for each complete declaration after 8 and before 9"
   names_reserved :
       (ds : List Declaration) (d : Declaration) (rest : List Token) {U : Table} → ts ≡ all_tokens ds ++ (declaration_tokens d ++ rest)

@@ -1,8 +1,8 @@
 -- Document 01, refusals 6 and 7: brackets and blocks, and how deep they stand. Places are token numbers.
 use Rattle.std.specs.Prelude.{true, false, List, [], ◌∷◌, ℕ, suc, ltb, length}
-use Rattle.grammar.specs.Token.{Structure, opening, closing, semicolon, keywordLet, keywordIn, keywordEnd}
+use Rattle.grammar.specs.Token.{Structure, opening, closing, semicolon, keyword_let, keyword_in, keyword_end}
 use Rattle.grammar.specs.Token.{Token, atom, structure}
-use Rattle.grammar.specs.Open.{Open, in_bracket, inDeclarations, in_body, deepest}
+use Rattle.grammar.specs.Open.{Open, in_bracket, in_declarations, in_body, deepest}
 use Rattle.grammar.specs.Outcome.{Outcome, refused, passed}
 
 -- What a token does to what is open, innermost first.
@@ -19,29 +19,29 @@ unfoldable pub outermost : Structure → Move
 outermost opening = enters in_bracket
 outermost closing = broken
 outermost semicolon = broken
-outermost keywordLet = enters inDeclarations
-outermost keywordIn = broken
-outermost keywordEnd = broken
+outermost keyword_let = enters in_declarations
+outermost keyword_in = broken
+outermost keyword_end = broken
 
 unfoldable pub within : Open → Structure → Move
 within in_bracket opening = enters in_bracket
 within in_bracket closing = leaves
 within in_bracket semicolon = broken
-within in_bracket keywordLet = enters inDeclarations
-within in_bracket keywordIn = broken
-within in_bracket keywordEnd = broken
-within inDeclarations opening = broken
-within inDeclarations closing = broken
-within inDeclarations semicolon = stays
-within inDeclarations keywordLet = broken
-within inDeclarations keywordIn = becomes in_body
-within inDeclarations keywordEnd = broken
+within in_bracket keyword_let = enters in_declarations
+within in_bracket keyword_in = broken
+within in_bracket keyword_end = broken
+within in_declarations opening = broken
+within in_declarations closing = broken
+within in_declarations semicolon = stays
+within in_declarations keyword_let = broken
+within in_declarations keyword_in = becomes in_body
+within in_declarations keyword_end = broken
 within in_body opening = enters in_bracket
 within in_body closing = broken
 within in_body semicolon = broken
-within in_body keywordLet = enters inDeclarations
-within in_body keywordIn = broken
-within in_body keywordEnd = leaves
+within in_body keyword_let = enters in_declarations
+within in_body keyword_in = broken
+within in_body keyword_end = leaves
 
 unfoldable pub move : List Open → Token → Move
 move os (atom a) = stays

@@ -4,7 +4,7 @@ use Rattle.std.specs.Prelude.{Bool, true, false, ◌&&◌, List, [], ◌∷◌, 
 use Rattle.grammar.specs.Bytes.{Bytes, bytes, same}
 use Rattle.grammar.specs.Token.{class, is_blank_byte, letter, digit, sign, quote, opens, closes, separates}
 use Rattle.grammar.specs.Token.{in_word, in_sign, in_number, in_quotes, is_quote, doubled, longest_name, longest_number}
-use Rattle.grammar.specs.Token.{symbol, number, quoted, opening, closing, semicolon, keywordLet, keywordIn, keywordEnd}
+use Rattle.grammar.specs.Token.{symbol, number, quoted, opening, closing, semicolon, keyword_let, keyword_in, keyword_end}
 use Rattle.grammar.specs.Token.{Token, atom, structure}
 use Rattle.grammar.specs.Outcome.{Outcome, refused, passed}
 
@@ -26,12 +26,12 @@ pub data Front : Type 0 where
 unfoldable pub keyword_or_symbol : Bytes → Token
 keyword_or_symbol w =
     elim (same w (bytes "let")) [
-      | true ↦ structure keywordLet
+      | true ↦ structure keyword_let
       | false ↦
           elim (same w (bytes "in")) [
-            | true ↦ structure keywordIn
+            | true ↦ structure keyword_in
             | false ↦
-                elim (same w (bytes "end")) [ true ↦ structure keywordEnd | false ↦ atom (symbol w) ]
+                elim (same w (bytes "end")) [ true ↦ structure keyword_end | false ↦ atom (symbol w) ]
           ]
     ]
 

@@ -2,7 +2,7 @@
 -- pair or block is one operand."
 use Rattle.std.specs.Prelude.{◌≡◌, Bool, true, false, List, [], ◌∷◌, ◌++◌, ℕ, zero, suc}
 use Rattle.grammar.specs.Bytes.{All}
-use Rattle.grammar.specs.Token.{Atom, opening, closing, semicolon, keywordLet, keywordIn, keywordEnd}
+use Rattle.grammar.specs.Token.{Atom, opening, closing, semicolon, keyword_let, keyword_in, keyword_end}
 use Rattle.grammar.specs.Token.{Token, atom, structure, is_structure}
 
 -- What a span is made of: names, numbers and operators of its own, bracket pairs with what is inside, blocks with their declarations
@@ -15,7 +15,7 @@ pub data Item : Type 0 where
 unfoldable pub item_tokens : Item → List Token
 item_tokens (single a) = atom a ∷ []
 item_tokens (pair ts) = structure opening ∷ ts ++ structure closing ∷ []
-item_tokens (scope ds ts) = structure keywordLet ∷ ds ++ structure keywordIn ∷ ts ++ structure keywordEnd ∷ []
+item_tokens (scope ds ts) = structure keyword_let ∷ ds ++ structure keyword_in ∷ ts ++ structure keyword_end ∷ []
 
 unfoldable pub all_item_tokens : List Item → List Token
 all_item_tokens [] = []
@@ -37,7 +37,7 @@ pub data ItemsOf : List Token → List Item → Type 0 where
       → ItemsOf (structure opening ∷ us ++ structure closing ∷ ts) (pair us ∷ is)
   body :
       {ds us ts : List Token} {ks is : List Item} → All InDeclarations ds → ItemsOf us ks → ItemsOf ts is
-      → ItemsOf (structure keywordLet ∷ ds ++ structure keywordIn ∷ us ++ structure keywordEnd ∷ ts) (scope ds us ∷ is)
+      → ItemsOf (structure keyword_let ∷ ds ++ structure keyword_in ∷ us ++ structure keyword_end ∷ ts) (scope ds us ∷ is)
 
 -- What a token does: it opens a bracket pair (false) or a block (true), it closes one, or neither.
 pub data Effect : Type 0 where
@@ -50,9 +50,9 @@ effect (atom a) = neither
 effect (structure opening) = opens_one false
 effect (structure closing) = closes_one
 effect (structure semicolon) = neither
-effect (structure keywordLet) = opens_one true
-effect (structure keywordIn) = neither
-effect (structure keywordEnd) = closes_one
+effect (structure keyword_let) = opens_one true
+effect (structure keyword_in) = neither
+effect (structure keyword_end) = closes_one
 
 -- The item that a token of the span itself is.
 unfoldable pub own_item : Token → List Item
@@ -60,7 +60,7 @@ own_item (atom a) = single a ∷ []
 own_item (structure s) = []
 
 unfoldable pub is_in : Token → Bool
-is_in t = is_structure keywordIn t
+is_in t = is_structure keyword_in t
 
 unfoldable pub before_in : List Token → List Token
 before_in [] = []

@@ -70,13 +70,13 @@ right_root (some r) = is_right r.associativity
 
 -- Where an operand stands (not what 01 calls a side, which is an associativity).
 pub data Position : Type 0 where
-  onLeft onRight : Position
+  on_left on_right : Position
 
 -- "It may have the same level only as the operand on the right of a right-sided prefix or infix mark; or as the operand on the
 -- left of a left-sided infix or postfix mark, where the operand's own root is not right-sided."
 unfoldable pub admits_equal : Position → Role → Option Role → Bool
-admits_equal onRight r o = is_right r.associativity
-admits_equal onLeft r o = is_left r.associativity && not (right_root o)
+admits_equal on_right r o = is_right r.associativity
+admits_equal on_left r o = is_left r.associativity && not (right_root o)
 
 -- "An operand may have a lower level than its operator." `r` is the operator's role, `o` that of the operand's root.
 unfoldable pub admits : Position → Role → Option Role → Bool
@@ -85,7 +85,7 @@ admits s r o = ltb (root_precedence o) r.precedence || (eqb (root_precedence o) 
 -- A role in force that admits the operands, where they are there.
 unfoldable pub admits_both : Option Role → Option Role → Option Role → Bool
 admits_both none l r = false
-admits_both (some p) l r = admits onLeft p l && admits onRight p r
+admits_both (some p) l r = admits on_left p l && admits on_right p r
 
 -- "A word or sign without a role in force is a name."
 unfoldable pub is_operand_atom : Table → Atom → Bool

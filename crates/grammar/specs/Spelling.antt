@@ -2,7 +2,7 @@
 use Rattle.std.specs.Prelude.{◌≡◌, Bool, true, false, List, [], ◌∷◌, ◌++◌, ℕ, ◌+◌, length, take}
 use Rattle.grammar.specs.Bytes.{Bytes, every}
 use Rattle.grammar.specs.Token.{is_blank_byte, in_word, in_sign, in_number, is_quote, symbol, number, quoted}
-use Rattle.grammar.specs.Token.{opening, closing, semicolon, keywordLet, keywordIn, keywordEnd}
+use Rattle.grammar.specs.Token.{opening, closing, semicolon, keyword_let, keyword_in, keyword_end}
 use Rattle.grammar.specs.Token.{Token, atom, structure, spelling, is_word, is_token}
 
 -- The bytes with which a token would go on, if they stood behind it: a quoted name with a quote, which makes a pair of the one that
@@ -14,9 +14,9 @@ continues (atom (quoted c)) = is_quote
 continues (structure opening) = λ b. false
 continues (structure closing) = λ b. false
 continues (structure semicolon) = λ b. false
-continues (structure keywordLet) = in_word
-continues (structure keywordIn) = in_word
-continues (structure keywordEnd) = in_word
+continues (structure keyword_let) = in_word
+continues (structure keyword_in) = in_word
+continues (structure keyword_end) = in_word
 
 -- The text is empty or its first byte fails the test.
 abbrev pub Stops : (ℕ → Bool) → Bytes → Type 0

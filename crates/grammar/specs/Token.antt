@@ -121,7 +121,7 @@ pub data Atom : Type 0 where
 
 -- A token of structure: a solo or a structure word.
 pub data Structure : Type 0 where
-  opening closing semicolon keywordLet keywordIn keywordEnd : Structure
+  opening closing semicolon keyword_let keyword_in keyword_end : Structure
 
 pub data Token : Type 0 where
   atom : Atom → Token
@@ -161,18 +161,18 @@ spelling (atom (quoted c)) = quote_byte ∷ doubled c ++ quote_byte ∷ []
 spelling (structure opening) = bytes "("
 spelling (structure closing) = bytes ")"
 spelling (structure semicolon) = bytes ";"
-spelling (structure keywordLet) = bytes "let"
-spelling (structure keywordIn) = bytes "in"
-spelling (structure keywordEnd) = bytes "end"
+spelling (structure keyword_let) = bytes "let"
+spelling (structure keyword_in) = bytes "in"
+spelling (structure keyword_end) = bytes "end"
 
 -- The tokens of structure by number.
 unfoldable pub structure_number : Structure → ℕ
 structure_number opening = 4
 structure_number closing = 5
 structure_number semicolon = 6
-structure_number keywordLet = 7
-structure_number keywordIn = 8
-structure_number keywordEnd = 9
+structure_number keyword_let = 7
+structure_number keyword_in = 8
+structure_number keyword_end = 9
 
 -- The token is that one of structure.
 unfoldable pub is_structure : Structure → Token → Bool

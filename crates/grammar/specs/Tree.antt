@@ -1,7 +1,7 @@
 -- Document 01, "Trees": what is a tree of a text. Nothing here says how one is found.
 use Rattle.std.specs.Prelude.{◌≡◌, true, List, [], ◌∷◌, ◌++◌, ℕ, suc, max}
 use Rattle.grammar.specs.Bytes.{Bytes}
-use Rattle.grammar.specs.Token.{Atom, symbol, opening, closing, keywordLet, keywordIn, keywordEnd, Token, atom, structure}
+use Rattle.grammar.specs.Token.{Atom, symbol, opening, closing, keyword_let, keyword_in, keyword_end, Token, atom, structure}
 use Rattle.grammar.specs.Operator.{Table}
 use Rattle.grammar.specs.Declaration.{Declaration, declare_all, all_tokens}
 use Rattle.grammar.specs.Span.{single, pair, scope}
@@ -20,7 +20,7 @@ unfoldable pub flat : Tree → List Token
 flat nothing = []
 flat (leaf a) = atom a ∷ []
 flat (bracket t) = structure opening ∷ flat t ++ structure closing ∷ []
-flat (block ds t) = structure keywordLet ∷ all_tokens ds ++ structure keywordIn ∷ flat t ++ structure keywordEnd ∷ []
+flat (block ds t) = structure keyword_let ∷ all_tokens ds ++ structure keyword_in ∷ flat t ++ structure keyword_end ∷ []
 flat (node l m r) = flat l ++ atom (symbol m) ∷ flat r
 
 -- How deep brackets and blocks stand in one another.

@@ -46,14 +46,14 @@ second_part K O i to = elim (ltb 3 (kind K i)) [ true ↦ Nothing | false ↦ op
 
 module _ (K O : List ℕ) (i : ℕ) where
   -- Of a bracket pair or a block.
-  module _ (is-structure : 3 < kind K i) where
+  module _ (is_structure_lem : 3 < kind K i) where
     pub first_span : (from : ℕ) → first_part K O from i ≡ span_part K O (opener_of K i)
     unfolding first_part
-    first_span from = rw (lt-ltb 3 (kind K i) is-structure, first_part)
+    first_span from = rw (lt-ltb 3 (kind K i) is_structure_lem, first_part)
 
     pub second_none : (to : ℕ) → second_part K O i to ≡ Nothing
     unfolding second_part
-    second_none to = rw (lt-ltb 3 (kind K i) is-structure, second_part)
+    second_none to = rw (lt-ltb 3 (kind K i) is_structure_lem, second_part)
 
   -- Of an atom or an operator.
   module _ (is_atom_lem : kind K i ≤ 3) where
@@ -103,14 +103,14 @@ module _ (M : Rows) (i : ℕ) where
   abbrev O : List ℕ
   O = M.roots
 
-  module _ (is-structure : 3 < kind K i) where
+  module _ (is_structure_lem : 3 < kind K i) where
     pub last_bracket : kind K i ≡ 4 → (n l m : ℕ) → last_words M i n l m ≡ node_words bracket_kind (n + m - 1) 0 0 0 0
     unfolding last_words
-    last_bracket e n l m = rw (lt-ltb 3 (kind K i) is-structure, eq-eqb (kind K i) 4 e, last_words)
+    last_bracket e n l m = rw (lt-ltb 3 (kind K i) is_structure_lem, eq-eqb (kind K i) 4 e, last_words)
 
     pub last_block : (kind K i ≡ 4 → ⊥) → (n l m : ℕ) → last_words M i n l m ≡ block_words (n + m - 1) K i (opener_of K i)
     unfolding last_words
-    last_block e n l m = rw (lt-ltb 3 (kind K i) is-structure, ne_eqb (kind K i) 4 e, last_words)
+    last_block e n l m = rw (lt-ltb 3 (kind K i) is_structure_lem, ne_eqb (kind K i) 4 e, last_words)
 
   module _ (is_atom_lem : kind K i ≤ 3) where
     pub last_atom : right O i ≡ 0 → (n l m : ℕ) → l ≡ 0 → last_words M i n l m ≡ atom_words K i

@@ -291,12 +291,12 @@ module _ (places : ℕ → ℕ) (M : Rows) where
       let m = present_marked (suc from) t k.2 in
       let z = bracket_size t in
       let e = s.end in
-      let is-structure : 3 < kind K from = omega (arith, k.0) in
+      let is_structure_lem : 3 < kind K from = omega (arith, k.0) in
       let opener = opener_bracket K from k.0 in
       record {
         opened = λ h. rw opener (record { starts = λ up. omega arith; within = omega arith; root = omega (arith, o.0) });
         coded = λ h. absurd (omega arith);
-        first = rw (first_span K O from is-structure from, opener) (
+        first = rw (first_span K O from is_structure_lem from, opener) (
           add-one from,
           record {
             stands = stand T (suc from) t k.3 s.roled o.1 (sym (add-one from)) (omega (arith, o.0)) (omega (arith, k.1));
@@ -305,9 +305,9 @@ module _ (places : ℕ → ℕ) (M : Rows) where
             within = omega (arith, k.1);
           },
         );
-        second = rw (second_none K O from is-structure to);
+        second = rw (second_none K O from is_structure_lem to);
         nodes = omega arith;
-        text = λ n. rw (last_bracket M from is-structure k.0 n (count t) (count t + 0), append-nil, add-zero (count t), last_one (n + count t));
+        text = λ n. rw (last_bracket M from is_structure_lem k.0 n (count t) (count t + 0), append-nil, add-zero (count t), last_one (n + count t));
       }
 
   block_shape :
@@ -321,7 +321,7 @@ module _ (places : ℕ → ℕ) (M : Rows) where
       let m = present_marked (suc c) t k.5 in
       let z = block_size ds t in
       let e = s.end in
-      let is-structure : 3 < kind K from = omega (arith, k.0) in
+      let is_structure_lem : 3 < kind K from = omega (arith, k.0) in
       let opener : opener_of K from ≡ c = opener_block K from (λ e. omega (arith, k.0)) ∙ k.2 in
       record {
         opened = λ h. rw opener (record {
@@ -330,7 +330,7 @@ module _ (places : ℕ → ℕ) (M : Rows) where
           root = omega (arith, o.0);
         });
         coded = λ h. absurd (omega arith);
-        first = rw (first_span K O from is-structure from, opener) (
+        first = rw (first_span K O from is_structure_lem from, opener) (
           add-one c,
           record {
             stands = stand (declare_all T ds) (suc c) t k.6 s.roled o.1 (sym (add-one c)) (omega (arith, o.0)) (omega (arith, k.4));
@@ -339,11 +339,11 @@ module _ (places : ℕ → ℕ) (M : Rows) where
             within = omega (arith, k.4);
           },
         );
-        second = rw (second_none K O from is-structure to);
+        second = rw (second_none K O from is_structure_lem to);
         nodes = omega arith;
         text = λ n.
             rw (
-              last_block M from is-structure (λ e. omega (arith, k.0)) n (count t) (count t + 0),
+              last_block M from is_structure_lem (λ e. omega (arith, k.0)) n (count t) (count t + 0),
               opener,
               k.1,
               k.3,

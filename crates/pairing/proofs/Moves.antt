@@ -7,8 +7,8 @@ use Prim.Native.Nat.{ℕ, ◌≤◌, ◌<◌}
 use native.Mathlib.Omega.{arith}
 use lib.Dec.{eqb}
 use borrow.Author.Tests.{ne_eqb}
-use Rattle.grammar.specs.Open.{Open, in_bracket, inDeclarations, in_body, OutsideDeclarations}
-use Rattle.grammar.specs.Token.{Structure, structure, structure_number, opening, closing, semicolon, keywordLet, keywordIn, keywordEnd}
+use Rattle.grammar.specs.Open.{Open, in_bracket, in_declarations, in_body, OutsideDeclarations}
+use Rattle.grammar.specs.Token.{Structure, structure, structure_number, opening, closing, semicolon, keyword_let, keyword_in, keyword_end}
 use Rattle.grammar.specs.Nesting.{stays, broken, outermost, within, move}
 use Rattle.grammar.specs.Coded.{kind_of, token_of}
 use Rattle.grammar.proofs.Logic.{below}
@@ -24,18 +24,18 @@ unfoldable pub move_by : ℕ → Structure → Move
 move_by n opening = elim (eqb n 2) [ true ↦ Break | false ↦ Opens 1 ]
 move_by n closing = elim (eqb n 1) [ true ↦ Close | false ↦ Break ]
 move_by n semicolon = elim (eqb n 2) [ true ↦ Stay | false ↦ Break ]
-move_by n keywordLet = elim (eqb n 2) [ true ↦ Break | false ↦ Opens 2 ]
-move_by n keywordIn = elim (eqb n 2) [ true ↦ Turn | false ↦ Break ]
-move_by n keywordEnd = elim (eqb n 3) [ true ↦ Close | false ↦ Break ]
+move_by n keyword_let = elim (eqb n 2) [ true ↦ Break | false ↦ Opens 2 ]
+move_by n keyword_in = elim (eqb n 2) [ true ↦ Turn | false ↦ Break ]
+move_by n keyword_end = elim (eqb n 3) [ true ↦ Close | false ↦ Break ]
 
 -- By what is open: each answer but `Break` is one of these.
 pub data Does : List Open → Structure → Move → Type 0 where
   opens : {os : List Open} → OutsideDeclarations os → Does os opening (Opens 1)
   closes : {os : List Open} → Does (in_bracket ∷ os) closing Close
-  separates : {os : List Open} → Does (inDeclarations ∷ os) semicolon Stay
-  begins : {os : List Open} → OutsideDeclarations os → Does os keywordLet (Opens 2)
-  turns : {os : List Open} → Does (inDeclarations ∷ os) keywordIn Turn
-  ends : {os : List Open} → Does (in_body ∷ os) keywordEnd Close
+  separates : {os : List Open} → Does (in_declarations ∷ os) semicolon Stay
+  begins : {os : List Open} → OutsideDeclarations os → Does os keyword_let (Opens 2)
+  turns : {os : List Open} → Does (in_declarations ∷ os) keyword_in Turn
+  ends : {os : List Open} → Does (in_body ∷ os) keyword_end Close
   breaks : {os : List Open} {s : Structure} → move os (structure s) ≡ broken → Does os s Break
 
 does : (os : List Open) (s : Structure) → Does os s (move_by (open_code os) s)
@@ -43,27 +43,27 @@ unfolding move_by open_code move outermost within
 does [] opening = opens tt
 does [] closing = breaks refl
 does [] semicolon = breaks refl
-does [] keywordLet = begins tt
-does [] keywordIn = breaks refl
-does [] keywordEnd = breaks refl
+does [] keyword_let = begins tt
+does [] keyword_in = breaks refl
+does [] keyword_end = breaks refl
 does (in_bracket ∷ os) opening = opens tt
 does (in_bracket ∷ os) closing = closes
 does (in_bracket ∷ os) semicolon = breaks refl
-does (in_bracket ∷ os) keywordLet = begins tt
-does (in_bracket ∷ os) keywordIn = breaks refl
-does (in_bracket ∷ os) keywordEnd = breaks refl
-does (inDeclarations ∷ os) opening = breaks refl
-does (inDeclarations ∷ os) closing = breaks refl
-does (inDeclarations ∷ os) semicolon = separates
-does (inDeclarations ∷ os) keywordLet = breaks refl
-does (inDeclarations ∷ os) keywordIn = turns
-does (inDeclarations ∷ os) keywordEnd = breaks refl
+does (in_bracket ∷ os) keyword_let = begins tt
+does (in_bracket ∷ os) keyword_in = breaks refl
+does (in_bracket ∷ os) keyword_end = breaks refl
+does (in_declarations ∷ os) opening = breaks refl
+does (in_declarations ∷ os) closing = breaks refl
+does (in_declarations ∷ os) semicolon = separates
+does (in_declarations ∷ os) keyword_let = breaks refl
+does (in_declarations ∷ os) keyword_in = turns
+does (in_declarations ∷ os) keyword_end = breaks refl
 does (in_body ∷ os) opening = opens tt
 does (in_body ∷ os) closing = breaks refl
 does (in_body ∷ os) semicolon = breaks refl
-does (in_body ∷ os) keywordLet = begins tt
-does (in_body ∷ os) keywordIn = breaks refl
-does (in_body ∷ os) keywordEnd = ends
+does (in_body ∷ os) keyword_let = begins tt
+does (in_body ∷ os) keyword_in = breaks refl
+does (in_body ∷ os) keyword_end = ends
 
 does_move : {os : List Open} {s : Structure} {r : Move} → Does os s r → coded_move (move os (structure s)) ≡ r
 unfolding coded_move open_code move within
@@ -93,15 +93,15 @@ structure_kind k l h =
     below k 5 (λ a. (opening, omega arith)) (λ a.
     below k 6 (λ b. (closing, omega arith)) (λ b.
     below k 7 (λ c. (semicolon, omega arith)) (λ c.
-    below k 8 (λ d. (keywordLet, omega arith)) (λ d.
-    below k 9 (λ e. (keywordIn, omega arith)) (λ e. (keywordEnd, omega arith))))))
+    below k 8 (λ d. (keyword_let, omega arith)) (λ d.
+    below k 9 (λ e. (keyword_in, omega arith)) (λ e. (keyword_end, omega arith))))))
 
 pub structure_token : (k : ℕ) (s : Structure) → k ≡ structure_number s → token_of k [] ≡ structure s
 unfolding kind_of
 structure_token k s e = rw e (structure_coded s [])
 
 pub token_end :
-    (k : ℕ) → 3 < k → (k ≡ 4 → ⊥) → (k ≡ 5 → ⊥) → (k ≡ 6 → ⊥) → (k ≡ 7 → ⊥) → (k ≡ 8 → ⊥) → token_of k [] ≡ structure keywordEnd
+    (k : ℕ) → 3 < k → (k ≡ 4 → ⊥) → (k ≡ 5 → ⊥) → (k ≡ 6 → ⊥) → (k ≡ 7 → ⊥) → (k ≡ 8 → ⊥) → token_of k [] ≡ structure keyword_end
 unfolding token_of
 token_end k h d e f g i =
     rw (

@@ -7,7 +7,7 @@ use native.Mathlib.Omega.{arith}
 use lib.Dec.{lit<}
 use lib.ListN.{length, get_or, set}
 use lib.Seq.{get_or-set_same, get_or-set_other}
-use Rattle.grammar.specs.Open.{Open, in_bracket, inDeclarations, in_body, OutsideDeclarations}
+use Rattle.grammar.specs.Open.{Open, in_bracket, in_declarations, in_body, OutsideDeclarations}
 use Rattle.grammar.proofs.Logic.{below}
 use Rattle.rows.specs.Fields.{kind, closer, store, Holds}
 use Rattle.rows.specs.Tokens.{Paired, done, single, bracket, block, IsAtomKind, IsQuietKind}
@@ -22,7 +22,7 @@ Quiet K i n = (j : ℕ) → i < j → j < n → IsQuietKind (kind K j)
 -- What is open, up to token `n`: its first token and its last opener.
 pub data Begun (K : List ℕ) : Open → ℕ → ℕ → ℕ → Type 0 where
   bracket_open : {k n : ℕ} → kind K k ≡ 4 → k < n → Paired K (suc k) n → Begun K in_bracket k k n
-  declarations_open : {k n : ℕ} → kind K k ≡ 7 → k < n → Quiet K k n → Begun K inDeclarations k k n
+  declarations_open : {k n : ℕ} → kind K k ≡ 7 → k < n → Quiet K k n → Begun K in_declarations k k n
   body_open :
       {k c n : ℕ} → kind K k ≡ 7 → closer K k ≡ c → k < c → kind K c ≡ 8 → Quiet K k c → c < n → Paired K (suc c) n
       → Begun K in_body k c n
@@ -68,7 +68,7 @@ module _ {K S O : List ℕ} where
 
   -- One more token among declarations.
   pub pairs_quiet :
-      {os : List Open} {n : ℕ} → OpenPairs K S O (inDeclarations ∷ os) n → IsQuietKind (kind K n) → OpenPairs K S O (inDeclarations ∷ os) (suc n)
+      {os : List Open} {n : ℕ} → OpenPairs K S O (in_declarations ∷ os) n → IsQuietKind (kind K n) → OpenPairs K S O (in_declarations ∷ os) (suc n)
   pairs_quiet {n = n} (one_more {k = k} r s o (declarations_open e l f) w) q =
       let m : k < suc n = omega arith in
       one_more r s o (declarations_open e m (λ j x y. below j n (f j x) (λ z. let g : j ≡ n = omega arith in rw g q))) w
@@ -83,7 +83,7 @@ module _ {K S O : List ℕ} where
       place : (qs : List Open) → OpenPairs K S O qs n → OpenPairs K S O qs (suc n)
       place [] v = pairs_item tt v next
       place (in_bracket ∷ qs) v = pairs_item tt v next
-      place (inDeclarations ∷ qs) v =
+      place (in_declarations ∷ qs) v =
           pairs_quiet v (k.0, omega (arith, k.1), (λ e. omega (arith, k.1)), (λ e. omega (arith, k.1)))
       place (in_body ∷ qs) v = pairs_item tt v next
 
@@ -151,7 +151,7 @@ module _ {K S O : List ℕ} {os : List Open} {n : ℕ} (l : suc (length os) < le
 
   pub pairs_begins :
       OutsideDeclarations os → kind K n ≡ 7 → OpenPairs K S O os n
-      → OpenPairs K (set S (suc (length os)) 2) (set O (suc (length os)) n) (inDeclarations ∷ os) (suc n)
+      → OpenPairs K (set S (suc (length os)) 2) (set O (suc (length os)) n) (in_declarations ∷ os) (suc n)
   unfolding open_code
   pairs_begins r e w =
       let x : n < suc n = omega arith in
@@ -159,7 +159,7 @@ module _ {K S O : List ℕ} {os : List Open} {n : ℕ} (l : suc (length os) < le
 
   -- It is the `in` of a block.
   pub pairs_turns :
-      Holds 4 K n → kind K n ≡ 8 → OpenPairs K S O (inDeclarations ∷ os) n
+      Holds 4 K n → kind K n ≡ 8 → OpenPairs K S O (in_declarations ∷ os) n
       → OpenPairs (store 4 3 K (get_or O (suc (length os)) 0) n) (set S (suc (length os)) 3) (set O (suc (length os)) n) (in_body ∷ os) (suc n)
   unfolding open_code
   pairs_turns h y (one_more {a = a} r s o (declarations_open e g f) w) =

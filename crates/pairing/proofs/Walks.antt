@@ -9,7 +9,7 @@ use native.Mathlib.Omega.{arith}
 use lib.Dec.{lit≤, lit<}
 use lib.ListN.{length, get_or, set, length-set}
 use borrow.Author.Tests.{le-ltb, eq-eqb, ne_eqb}
-use Rattle.grammar.specs.Open.{Open, in_bracket, inDeclarations, in_body, deepest}
+use Rattle.grammar.specs.Open.{Open, in_bracket, in_declarations, in_body, deepest}
 use Rattle.grammar.specs.Token.{Structure, structure_number}
 use Rattle.grammar.specs.Outcome.{refused}
 use Rattle.grammar.specs.Nesting.{Move, stays, enters, becomes, leaves, within, move, close_innermost, nesting}
@@ -203,7 +203,7 @@ module _ {K₀ : List ℕ} {count : ℕ} {K S O : List ℕ} {depth i : ℕ} wher
       → Pairing K₀ count K (Refused 7 i)
   unfolding structure_number token_of
   walk_deep {os} w l (s, e, opens r) h = too_deep_lem w l in_bracket (rw e (opening_enters os r)) h
-  walk_deep {os} w l (s, e, begins r) h = too_deep_lem w l inDeclarations (rw e (let_enters os r)) h
+  walk_deep {os} w l (s, e, begins r) h = too_deep_lem w l in_declarations (rw e (let_enters os r)) h
 
   pub walk_enters :
       {os : List Open} {p : ℕ} → Walk K₀ count K S O depth i os → i < count → Made K i os (Opens p) → depth < 32
@@ -212,7 +212,7 @@ module _ {K₀ : List ℕ} {count : ℕ} {K S O : List ℕ} {depth i : ℕ} wher
   walk_enters {os} w l (s, e, opens r) h =
       deeper w l in_bracket 1 (rw e (opening_enters os r)) h (λ x y. pairs_opens x y r e w.held)
   walk_enters {os} w l (s, e, begins r) h =
-      deeper w l inDeclarations 2 (rw e (let_enters os r)) h (λ x y. pairs_begins x y r e w.held)
+      deeper w l in_declarations 2 (rw e (let_enters os r)) h (λ x y. pairs_begins x y r e w.held)
 
   -- It closes what is open innermost, or is the `in` of that: then something is open, and its opener is a token before.
   opener : {os : List Open} → Walk K₀ count K S O depth i os → 0 < length os → (0 < depth) × (get_or O depth 0 < i)

@@ -1,6 +1,6 @@
 -- Checks 6 and 7 over a row of tokens, and the closers that it gets.
 use Rattle.std.specs.Prelude.{◌≡◌, Bool, true, false, List, [], ◌∷◌, ℕ, zero, suc, ◌≤◌, ◌<◌, eqb, length}
-use Rattle.grammar.specs.Open.{Open, in_bracket, inDeclarations, in_body}
+use Rattle.grammar.specs.Open.{Open, in_bracket, in_declarations, in_body}
 use Rattle.grammar.specs.Token.{Token}
 use Rattle.grammar.specs.Outcome.{Outcome, refused, passed}
 use Rattle.grammar.specs.Nesting.{Move, stays, broken, enters, becomes, leaves, nesting}
@@ -17,7 +17,7 @@ use Rattle.pairing.specs.declared.Paired.TheVariants.{Passed, Refused}
 unfoldable pub open_code : List Open → ℕ
 open_code [] = 0
 open_code (in_bracket ∷ os) = 1
-open_code (inDeclarations ∷ os) = 2
+open_code (in_declarations ∷ os) = 2
 open_code (in_body ∷ os) = 3
 
 -- What a token does, as the code answers it. No token enters a body, and what a block becomes is its body.

@@ -8,7 +8,7 @@ use native.Mathlib.Omega.{arith}
 use lib.Dec.{eqb, ltb, leb}
 use borrow.Author.Tests.{ltb-false, leb-true, leb-false, lt-ltb, le-ltb, le-leb, lt-leb, eq-eqb, ne_eqb}
 use Rattle.grammar.specs.Operator.{Fixity, Prefix, Infix, Postfix, Associativity, left, right, non, Role, Roles}
-use Rattle.grammar.specs.SpanTree.{root_precedence, is_left, is_right, right_root, onLeft, onRight, admits_equal, admits}
+use Rattle.grammar.specs.SpanTree.{root_precedence, is_left, is_right, right_root, on_left, on_right, admits_equal, admits}
 use Rattle.grammar.specs.Climb.{first_role}
 use Rattle.grammar.proofs.Logic.{below, impossible}
 use Rattle.rows.specs.Codes.{side_code, role_code, role_of, roles_of, Fit, IsRole, arrival_of, gives_way_to}
@@ -240,7 +240,7 @@ module _ (c : ℕ) (q : Role) (e : role_of c ≡ some q) where
 -- An operand is admitted up to the operator's precedence, or below it.
 module _ (c o : ℕ) (q : Role) (e : role_of c ≡ some q) where
   pub admits-left-same :
-      c < 4096 → o < 6144 → admits onLeft q (role_of o) ≡ leb (root_precedence (role_of o)) (root_precedence (role_of c))
+      c < 4096 → o < 6144 → admits on_left q (role_of o) ≡ leb (root_precedence (role_of o)) (root_precedence (role_of c))
   unfolding admits admits_equal
   admits-left-same h k =
       let t : is_left q.associativity && not (right_root (role_of o)) ≡ true =
@@ -248,25 +248,25 @@ module _ (c o : ℕ) (q : Role) (e : role_of c ≡ some q) where
       rw (← role_precedence c q e) (at_most (root_precedence (role_of o)) q.precedence _ t)
 
   left_below :
-      ltb c 4096 && not (leb 6144 o) ≡ false → admits onLeft q (role_of o) ≡ ltb (root_precedence (role_of o)) (root_precedence (role_of c))
+      ltb c 4096 && not (leb 6144 o) ≡ false → admits on_left q (role_of o) ≡ ltb (root_precedence (role_of o)) (root_precedence (role_of c))
   unfolding admits admits_equal
   left_below h =
       let t : is_left q.associativity && not (right_root (role_of o)) ≡ false = rw (is_left-role c q e, right-root o) h in
       rw (← role_precedence c q e) (only_below (root_precedence (role_of o)) q.precedence _ t)
 
-  pub admits_left_below : 4096 ≤ c → admits onLeft q (role_of o) ≡ ltb (root_precedence (role_of o)) (root_precedence (role_of c))
+  pub admits_left_below : 4096 ≤ c → admits on_left q (role_of o) ≡ ltb (root_precedence (role_of o)) (root_precedence (role_of c))
   admits_left_below h = left_below (rw (le-ltb c 4096 h))
 
-  pub admits-left-right : 6144 ≤ o → admits onLeft q (role_of o) ≡ ltb (root_precedence (role_of o)) (root_precedence (role_of c))
+  pub admits-left-right : 6144 ≤ o → admits on_left q (role_of o) ≡ ltb (root_precedence (role_of o)) (root_precedence (role_of c))
   admits-left-right h = left_below (rw (le-leb 6144 o h, and_false))
 
-  pub admits-right-same : 6144 ≤ c → admits onRight q (role_of o) ≡ leb (root_precedence (role_of o) + 6144) c
+  pub admits-right-same : 6144 ≤ c → admits on_right q (role_of o) ≡ leb (root_precedence (role_of o) + 6144) c
   unfolding admits admits_equal
   admits-right-same h =
       let p = role_precedence c q e ∙ right_precedence c h in
       at_most (root_precedence (role_of o)) q.precedence _ (is_right-role c q e ∙ le-leb 6144 c h)
       ∙ same_test (root_precedence (role_of o)) q.precedence (root_precedence (role_of o) + 6144) c (λ l. omega arith) (λ l. omega arith)
 
-  pub admits_right_below : c < 6144 → admits onRight q (role_of o) ≡ ltb (root_precedence (role_of o)) (root_precedence (role_of c))
+  pub admits_right_below : c < 6144 → admits on_right q (role_of o) ≡ ltb (root_precedence (role_of o)) (root_precedence (role_of c))
   unfolding admits admits_equal
   admits_right_below h = rw (← role_precedence c q e) (only_below (root_precedence (role_of o)) q.precedence _ (is_right-role c q e ∙ lt-leb 6144 c h))

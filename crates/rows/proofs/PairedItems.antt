@@ -8,7 +8,7 @@ use Prim.Native.Nat.{ℕ, suc, ◌+◌, ◌<◌}
 use native.Mathlib.Omega.{arith}
 use lib.ListN.{length, length-append}
 use Rattle.grammar.specs.Bytes.{Bytes}
-use Rattle.grammar.specs.Token.{Token, atom, structure, opening, closing, keywordLet, keywordIn, keywordEnd}
+use Rattle.grammar.specs.Token.{Token, atom, structure, opening, closing, keyword_let, keyword_in, keyword_end}
 use Rattle.grammar.specs.Span.{single, pair, scope, item_tokens, opens_one, closes_one, neither, effect, item, items_from, items}
 use Rattle.grammar.proofs.Items.{
   item_block,
@@ -22,7 +22,7 @@ use Rattle.grammar.proofs.Items.{
   outside_pair,
 }
 use Rattle.rows.specs.Fields.{kind}
-use Rattle.rows.specs.Tokens.{atom_in, range, IsAtomKind, IsQuietKind, Paired, done, single as oneAtom, bracket, block}
+use Rattle.rows.specs.Tokens.{atom_in, range, IsAtomKind, IsQuietKind, Paired, done, single as one_atom, bracket, block}
 use Rattle.rows.proofs.Ranges.{length-range, range_none, range_atom, range_quiet, range_bracket, range_block}
 
 collected_one : (t : Token) → effect t ≡ neither → Collected (t ∷ [])
@@ -48,7 +48,7 @@ module _ (text : Bytes) (K : List ℕ) where
   pub collected_range : {i to : ℕ} → Paired K i to → Collected (range text K i to)
   unfolding effect
   collected_range (done {to = to}) = rw (range_none text K to) collected_none
-  collected_range (oneAtom {i = i} {to = to} l k p) =
+  collected_range (one_atom {i = i} {to = to} l k p) =
       rw (range_atom text K i to l k)
       (collected_append (atom (atom_in text K i) ∷ []) (range text K (suc i) to)
       (collected_one (atom (atom_in text K i)) refl) (collected_range p))
@@ -58,8 +58,8 @@ module _ (text : Bytes) (K : List ℕ) where
       (collected_range p) (collected_range q))
   collected_range (block {i = i} {to = to} c e k w v l m n y z f p q) =
       rw (range_block text K i c e to l m n k y z)
-      (collected_pair true (structure keywordLet) (structure keywordEnd) refl refl
-      (range text K (suc i) c ++ structure keywordIn ∷ range text K (suc c) e) (range text K (suc e) to)
+      (collected_pair true (structure keyword_let) (structure keyword_end) refl refl
+      (range text K (suc i) c ++ structure keyword_in ∷ range text K (suc c) e) (range text K (suc e) to)
       (collected_block (range text K (suc i) c) (range text K (suc c) e) (range_quiet text K (suc i) c f) (collected_range p))
       (collected_range q))
 
@@ -68,7 +68,7 @@ module _ (text : Bytes) (K : List ℕ) where
       {i to : ℕ} → Paired K i to → (rest : List Token) → items (range text K i to ++ rest) ≡ items (range text K i to) ++ items rest
   unfolding items items_from effect
   items-behind (done {to = to}) rest = rw (range_none text K to)
-  items-behind (oneAtom {i = i} {to = to} l k p) rest =
+  items-behind (one_atom {i = i} {to = to} l k p) rest =
       let a = atom_in text K i in
       let more = range text K (suc i) to in
       rw (range_atom text K i to l k, outside_atom a more)
@@ -78,7 +78,7 @@ module _ (text : Bytes) (K : List ℕ) where
       (pair_behind false (structure opening) (structure closing) refl refl _ _ rest (collected_range p) (items-behind q rest))
   items-behind (block {i = i} {to = to} c e k w v l m n y z f p q) rest =
       rw (range_block text K i c e to l m n k y z)
-      (pair_behind true (structure keywordLet) (structure keywordEnd) refl refl _ _ rest
+      (pair_behind true (structure keyword_let) (structure keyword_end) refl refl _ _ rest
       (collected_block (range text K (suc i) c) (range text K (suc c) e) (range_quiet text K (suc i) c f) (collected_range p))
       (items-behind q rest))
 
@@ -114,8 +114,8 @@ module _ (text : Bytes) (K : List ℕ) where
       let ts = range text K (suc c) e in
       let q = range_quiet text K (suc i) c f in
       rw (range_block text K i c e to l m n k y z, ← item_block ds ts q)
-      (outside_items true (structure keywordLet) (structure keywordEnd) refl refl
-      (ds ++ structure keywordIn ∷ ts) (range text K (suc e) to)
+      (outside_items true (structure keyword_let) (structure keyword_end) refl refl
+      (ds ++ structure keyword_in ∷ ts) (range text K (suc e) to)
       (collected_block ds ts q (collected_range p)))
 
   -- The token behind a bracket pair and behind a block.
@@ -132,8 +132,8 @@ module _ (text : Bytes) (K : List ℕ) where
       let ts = range text K (suc c) e in
       omega (
         arith,
-        length-append (ds ++ structure keywordIn ∷ ts) (structure keywordEnd ∷ []),
-        length-append ds (structure keywordIn ∷ ts),
+        length-append (ds ++ structure keyword_in ∷ ts) (structure keyword_end ∷ []),
+        length-append ds (structure keyword_in ∷ ts),
         length-range text K (suc i) c,
         length-range text K (suc c) e,
       )

@@ -6,7 +6,7 @@ use Prim.Native.Nat.{ℕ, zero, suc, ◌+◌, ◌-◌, ◌≤◌, ◌<◌}
 use native.Mathlib.Omega.{arith}
 use lib.ListN.{length, get_or}
 use Rattle.grammar.specs.Bytes.{Bytes}
-use Rattle.grammar.specs.Token.{Token, Structure, atom, structure, structure_number, opening, closing, keywordLet, keywordIn, keywordEnd}
+use Rattle.grammar.specs.Token.{Token, Structure, atom, structure, structure_number, opening, closing, keyword_let, keyword_in, keyword_end}
 use Rattle.grammar.specs.Span.{InDeclarations}
 use Rattle.grammar.specs.Coded.{kind_of, token_of}
 use Rattle.grammar.proofs.Items.{AllQuiet}
@@ -122,13 +122,13 @@ module _ (text : Bytes) (K : List ℕ) where
   pub range_block :
       (i c e to : ℕ) → i < c → c < e → e < to → kind K i ≡ 7 → kind K c ≡ 8 → kind K e ≡ 9
       → range text K i to
-      ≡ structure keywordLet ∷ (range text K (suc i) c ++ structure keywordIn ∷ range text K (suc c) e)
-      ++ structure keywordEnd ∷ range text K (suc e) to
+      ≡ structure keyword_let ∷ (range text K (suc i) c ++ structure keyword_in ∷ range text K (suc c) e)
+      ++ structure keyword_end ∷ range text K (suc e) to
   unfolding kind_of structure_number
   range_block i c e to l m n p q r =
-      pair_range i e to (omega arith) n (structure keywordLet) (structure keywordEnd)
-      (token_structure i keywordLet p) (token_structure e keywordEnd r)
-      ∙ rw (range_cut (suc i) c e l m (structure keywordIn) (token_structure c keywordIn q))
+      pair_range i e to (omega arith) n (structure keyword_let) (structure keyword_end)
+      (token_structure i keyword_let p) (token_structure e keyword_end r)
+      ∙ rw (range_cut (suc i) c e l m (structure keyword_in) (token_structure c keyword_in q))
 
 -- A row with the same kinds, places and sizes has the same tokens.
 module _

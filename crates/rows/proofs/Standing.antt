@@ -6,7 +6,7 @@ use Prim.Native.Nat.{ℕ, suc, ◌+◌, ◌≤◌, ◌<◌}
 use native.Mathlib.Omega.{arith}
 use lib.ListN.{length, length-append}
 use Rattle.grammar.specs.Bytes.{Bytes}
-use Rattle.grammar.specs.Token.{Token, Atom, structure, symbol, opening, keywordLet}
+use Rattle.grammar.specs.Token.{Token, Atom, structure, symbol, opening, keyword_let}
 use Rattle.grammar.specs.Operator.{Table}
 use Rattle.grammar.specs.Declaration.{declarations, all_tokens}
 use Rattle.grammar.specs.Blocks.{body_table}
@@ -195,6 +195,6 @@ unfolding all_item_tokens yield span_tree flat item_tokens
 span_tokens nothing = refl
 span_tokens (leaf a) = refl
 span_tokens (bracket t) = ap (λ ts. structure opening ∷ ts) (append-nil _)
-span_tokens (block ds t) = ap (λ ts. structure keywordLet ∷ ts) (append-nil _)
+span_tokens (block ds t) = ap (λ ts. structure keyword_let ∷ ts) (append-nil _)
 span_tokens (node l m r) =
     all_append (yield (span_tree l)) (Span.single (symbol m) ∷ yield (span_tree r)) ∙ cc (span_tokens l, span_tokens r)

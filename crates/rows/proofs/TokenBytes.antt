@@ -22,9 +22,9 @@ use Rattle.grammar.specs.Token.{
   opening,
   closing,
   semicolon,
-  keywordLet,
-  keywordIn,
-  keywordEnd,
+  keyword_let,
+  keyword_in,
+  keyword_end,
   as_written,
   doubled,
   spelling,
@@ -52,9 +52,9 @@ unfolding kind_of structure_number
 structure_kind opening = omega arith
 structure_kind closing = omega arith
 structure_kind semicolon = omega arith
-structure_kind keywordLet = omega arith
-structure_kind keywordIn = omega arith
-structure_kind keywordEnd = omega arith
+structure_kind keyword_let = omega arith
+structure_kind keyword_in = omega arith
+structure_kind keyword_end = omega arith
 
 pub kind_bounds : (t : Token) → (1 ≤ kind_of t) × (kind_of t ≤ 9)
 unfolding kind_of
@@ -102,9 +102,9 @@ token_ends (atom (quoted c)) at =
 token_ends (structure opening) at = record { plain = λ d. absurd (d (omega arith) (omega arith)); enclosed = λ l m. omega arith }
 token_ends (structure closing) at = record { plain = λ d. absurd (d (omega arith) (omega arith)); enclosed = λ l m. omega arith }
 token_ends (structure semicolon) at = omega arith
-token_ends (structure keywordLet) at = omega arith
-token_ends (structure keywordIn) at = omega arith
-token_ends (structure keywordEnd) at = omega arith
+token_ends (structure keyword_let) at = omega arith
+token_ends (structure keyword_in) at = omega arith
+token_ends (structure keyword_end) at = omega arith
 
 enclosed_cases : {X : Type 0} (k : ℕ) → (3 ≤ k → k ≤ 5 → X) → ((3 ≤ k → k ≤ 5 → ⊥) → X) → X
 enclosed_cases k f g =
@@ -159,9 +159,9 @@ unfolding structure_size
 structure_size_lem opening = omega arith
 structure_size_lem closing = omega arith
 structure_size_lem semicolon = omega arith
-structure_size_lem keywordLet = omega arith
-structure_size_lem keywordIn = omega arith
-structure_size_lem keywordEnd = omega arith
+structure_size_lem keyword_let = omega arith
+structure_size_lem keyword_in = omega arith
+structure_size_lem keyword_end = omega arith
 
 pub size_bound : (t : Token) → is_token t ≡ true → size_of t ≤ 126
 unfolding size_of
@@ -189,9 +189,9 @@ token_bytes (atom (quoted c)) e = omega arith
 token_bytes (structure opening) e = omega arith
 token_bytes (structure closing) e = omega arith
 token_bytes (structure semicolon) e = omega arith
-token_bytes (structure keywordLet) e = omega arith
-token_bytes (structure keywordIn) e = omega arith
-token_bytes (structure keywordEnd) e = omega arith
+token_bytes (structure keyword_let) e = omega arith
+token_bytes (structure keyword_in) e = omega arith
+token_bytes (structure keyword_end) e = omega arith
 
 -- They begin and end within the token.
 pub written-within : (t : Token) (at : ℕ) → place_of t at + size_of t ≤ at + length (spelling t)

@@ -3,7 +3,7 @@
 use Rattle.std.specs.Prelude.{◌≡◌, true, false, List, [], ◌∷◌, map, ℕ, zero, suc, ◌-◌, ◌≤◌, ◌<◌, eqb, length, take, drop, get_or}
 use Rattle.grammar.specs.Bytes.{Bytes}
 use Rattle.grammar.specs.Fault.{most_tokens}
-use Rattle.grammar.specs.Token.{Token, Atom, atom, structure, symbol, number, quoted, opening, closing, semicolon, keywordLet, keywordIn, keywordEnd}
+use Rattle.grammar.specs.Token.{Token, Atom, atom, structure, symbol, number, quoted, opening, closing, semicolon, keyword_let, keyword_in, keyword_end}
 use Rattle.grammar.specs.Token.{Structure, as_written, undoubled}
 use Rattle.grammar.specs.Outcome.{passed}
 use Rattle.grammar.specs.Scan.{Placed, scan}
@@ -66,9 +66,9 @@ unfoldable pub structure_size : Structure → ℕ
 structure_size opening = 0
 structure_size closing = 0
 structure_size semicolon = 1
-structure_size keywordLet = 3
-structure_size keywordIn = 2
-structure_size keywordEnd = 3
+structure_size keyword_let = 3
+structure_size keyword_in = 2
+structure_size keyword_end = 3
 
 unfoldable pub size_of : Token → ℕ
 size_of (atom a) = length (as_written a)

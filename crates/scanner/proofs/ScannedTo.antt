@@ -9,7 +9,7 @@ use lib.ListN.{length, drop, get_or, length-append, length-map, length-drop, dro
 use lib.Seq.{drop-drop, get_or-append_seam}
 use Rattle.grammar.specs.Fault.{most_tokens}
 use Rattle.grammar.specs.Token.{Token, atom, structure, symbol, number, quoted, doubled, is_blank_byte, spelling, structure_number}
-use Rattle.grammar.specs.Token.{opening, closing, semicolon, keywordLet, keywordIn, keywordEnd, is_word, is_sign, is_number, is_symbol, is_token}
+use Rattle.grammar.specs.Token.{opening, closing, semicolon, keyword_let, keyword_in, keyword_end, is_word, is_sign, is_number, is_symbol, is_token}
 use Rattle.grammar.specs.Outcome.{refused, passed}
 use Rattle.grammar.specs.Scan.{Placed, nothing, wrong, taken, run, front, scan}
 use Rattle.grammar.specs.Scan as Scan
@@ -60,9 +60,9 @@ token_bytes (atom (quoted c)) e = (omega arith, λ k. omega (arith, length-appen
 token_bytes (structure opening) e = (omega arith, λ k. absurd (omega arith))
 token_bytes (structure closing) e = (omega arith, λ k. absurd (omega arith))
 token_bytes (structure semicolon) e = (omega arith, λ k. absurd (omega arith))
-token_bytes (structure keywordLet) e = (omega arith, λ k. absurd (omega arith))
-token_bytes (structure keywordIn) e = (omega arith, λ k. absurd (omega arith))
-token_bytes (structure keywordEnd) e = (omega arith, λ k. absurd (omega arith))
+token_bytes (structure keyword_let) e = (omega arith, λ k. absurd (omega arith))
+token_bytes (structure keyword_in) e = (omega arith, λ k. absurd (omega arith))
+token_bytes (structure keyword_end) e = (omega arith, λ k. absurd (omega arith))
 
 -- What the code's answer tells of what stands there.
 told_wrong : (f : Scan.Front) → (f ≡ nothing → ⊥) → (r : Front) → Fronts f r → (k : ℕ) → r ≡ Found.Refused k → f ≡ wrong k

@@ -9,7 +9,7 @@ use lib.Dec.{eqb, ltb}
 use lib.ListN.{length, length-append}
 use borrow.Author.Tests.{eq-eqb, ne_eqb, lt-ltb, le-ltb}
 use Rattle.grammar.specs.Token.{Token, atom, structure, symbol, number, quoted, as_written, doubled, spelling, structure_number}
-use Rattle.grammar.specs.Token.{opening, closing, semicolon, keywordLet, keywordIn, keywordEnd}
+use Rattle.grammar.specs.Token.{opening, closing, semicolon, keyword_let, keyword_in, keyword_end}
 use Rattle.grammar.specs.Coded.{kind_of}
 use Rattle.rows.specs.Fields.{field, store, Within}
 use Rattle.rows.specs.Tokens.{place_of, size_of, structure_size}
@@ -31,9 +31,9 @@ place_by_lem (atom (quoted c)) at = omega arith
 place_by_lem (structure opening) at = refl
 place_by_lem (structure closing) at = refl
 place_by_lem (structure semicolon) at = refl
-place_by_lem (structure keywordLet) at = refl
-place_by_lem (structure keywordIn) at = refl
-place_by_lem (structure keywordEnd) at = refl
+place_by_lem (structure keyword_let) at = refl
+place_by_lem (structure keyword_in) at = refl
+place_by_lem (structure keyword_end) at = refl
 
 size_by_lem : (t : Token) → size_of t ≡ size_by (kind_of t) (length (spelling t))
 unfolding size_of structure_size kind_of structure_number as_written spelling
@@ -43,9 +43,9 @@ size_by_lem (atom (quoted c)) = omega (arith, length-append (doubled c) (39 ∷ 
 size_by_lem (structure opening) = refl
 size_by_lem (structure closing) = refl
 size_by_lem (structure semicolon) = refl
-size_by_lem (structure keywordLet) = refl
-size_by_lem (structure keywordIn) = refl
-size_by_lem (structure keywordEnd) = refl
+size_by_lem (structure keyword_let) = refl
+size_by_lem (structure keyword_in) = refl
+size_by_lem (structure keyword_end) = refl
 
 -- Three stores into one entry.
 module _

@@ -5,7 +5,7 @@ use mathlib.Core.Option.{some}
 use Prim.Native.Nat.{ℕ, ◌-◌, ◌<◌}
 use native.Mathlib.Omega.{arith}
 use Rattle.grammar.specs.Operator.{Role, Table}
-use Rattle.grammar.specs.SpanTree.{Position, onLeft, onRight, admits}
+use Rattle.grammar.specs.SpanTree.{Position, on_left, on_right, admits}
 use Rattle.grammar.specs.Tree.{Tree}
 use Rattle.rows.specs.Fields.{kind}
 use Rattle.rows.specs.Codes.{role_of, IsRole}
@@ -84,13 +84,13 @@ admits-right-requires : tie.Need-admits-right-requires
 admits-right-requires c κs = tested c.before
 
 returns-3 : tie.Need-returns-3
-returns-3 c = rw c.before.if3.true (answered c.before.before onRight _ c.admits-right.ensures)
+returns-3 c = rw c.before.if3.true (answered c.before.before on_right _ c.admits-right.ensures)
 
 admits-left-requires : tie.Need-admits-left-requires
 admits-left-requires c κs = tested c.before
 
 returns-4 : tie.Need-returns-4
-returns-4 c = rw c.before.if3.false (answered c.before.before onLeft _ c.admits-left.ensures)
+returns-4 c = rw c.before.if3.false (answered c.before.before on_left _ c.admits-left.ensures)
 
 pub is-needed-spec : {M : Type 1} → statement M
 is-needed-spec =

@@ -6,7 +6,7 @@ use mathlib.Core.Bool.{Bool}
 use mathlib.Core.Option.{some}
 use Prim.Native.Nat.{ℕ}
 use Rattle.grammar.specs.Operator.{Role}
-use Rattle.grammar.specs.SpanTree.{Position, onLeft, onRight, admits}
+use Rattle.grammar.specs.SpanTree.{Position, on_left, on_right, admits}
 use Rattle.rows.specs.Codes.{role_of, IsRole}
 use Rattle.climb.proofs.Arrives.{none_is_role, prefix_none, prefix_untaken, prefix_by, infix_by, postfix_none, postfix_by}
 use Rattle.climb.proofs.search.arrives.Statement.{statement}
@@ -36,7 +36,7 @@ returns-3 : tie.Need-returns-3
 returns-3 c =
     let p = c.before.before.before in
     let f = p.prefix.ensures in
-    let tested : Tests onRight p.before.before.before.args.taking p.prefix.result c.admits-right.result = c.admits-right.ensures in
+    let tested : Tests on_right p.before.before.before.args.taking p.prefix.result c.admits-right.result = c.admits-right.ensures in
     prefix_by _ _ _ _ _ _ p.before.if1.true (λ e. c.before.before.if2.false (f ∙ e)) c.before.if3.false (rw f at tested)
 
 infix-requires : tie.Need-infix-requires
@@ -52,7 +52,7 @@ returns-4 : tie.Need-returns-4
 returns-4 c =
     let p = c.before.before in
     let f = p.«infix».ensures in
-    let tested : Tests onLeft p.«infix».result p.before.before.before.args.inner c.admits-left.result = c.admits-left.ensures in
+    let tested : Tests on_left p.«infix».result p.before.before.before.args.inner c.admits-left.result = c.admits-left.ensures in
     infix_by _ _ _ _ _ _ p.before.if1.false (λ e. c.before.if4.true (f ∙ e)) (rw f at tested)
 
 postfix-requires : tie.Need-postfix-requires

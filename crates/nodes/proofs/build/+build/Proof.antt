@@ -201,18 +201,18 @@ module _ (t : ℕ) where
       c.match.branch
 
   -- A bracket pair or a block: what it holds is all but its last node.
-  is-structure : (c : Span) → let a = (from-met c.before).args in 3 < kind a.tokens.now a.at
-  is-structure c = omega (arith, c.if1.true, c.before.before.before.kind.ensures)
+  is_structure_lem : (c : Span) → let a = (from-met c.before).args in 3 < kind a.tokens.now a.at
+  is_structure_lem c = omega (arith, c.if1.true, c.before.before.before.kind.ensures)
 
   span-children : (c : Span) → let j = c.before.match in ChildrenAt c.before j.nodes j.l
-  span-children c = let m = c.before in children_one (asked m) (first-here m) (second_none _ _ _ (is-structure c) _) refl
+  span-children c = let m = c.before in children_one (asked m) (first-here m) (second_none _ _ _ (is_structure_lem c) _) refl
 
   span-ends : (c : Span)
       → let j = c.before.match in EndsInChild ((from-met c.before).args.base + j.l) × HasNode j.nodes j.l
   span-ends c =
       let m = c.before in
       let r = last_room (asked m) (span-children c) in
-      let l = first_counts (asked m) (first-here m) (first_span _ _ _ (is-structure c) _) in
+      let l = first_counts (asked m) (first-here m) (first_span _ _ _ (is_structure_lem c) _) in
       (omega (arith, r.0), r.1)
 
   build-bracket-requires : build-lts.Need-bracket-requires (calls t) (build-at t) build.Post
@@ -223,7 +223,7 @@ module _ (t : ℕ) where
       let p = c.before.before.before.before in
       let m = p.before.before in
       done (asked m) (span-children p.before) _ (first-here m) c.before.before.bracket.ensures
-      (sym (last_bracket _ _ (is-structure p.before) (sym m.before.before.kind.ensures ∙ p.if2.true) _ _ _))
+      (sym (last_bracket _ _ (is_structure_lem p.before) (sym m.before.before.kind.ensures ∙ p.if2.true) _ _ _))
 
   build-same-length : build-lts.Need-same-length (calls t) (build-at t) build.Post
   build-same-length c = built_length (asked c.before.before.before.before.before.before) (build-returns c)
@@ -235,9 +235,9 @@ module _ (t : ℕ) where
   build-block-requires c κs =
       let p = c.before.before.before in
       let h = asked p.before in
-      let o = opener_asks h (is-structure p) in
+      let o = opener_asks h (is_structure_lem p) in
       let e = span-ends p in
-      rw c.before.opener.ensures (root_token h, o.0, opener_order h (is-structure p), e.0, e.1)
+      rw c.before.opener.ensures (root_token h, o.0, opener_order h (is_structure_lem p), e.0, e.1)
 
   build-returns-2 : build-lts.Need-returns-2 (calls t) (build-at t) build.Post
   build-returns-2 c =
@@ -248,7 +248,7 @@ module _ (t : ℕ) where
       let w = block_words (a.base + m.match.l - 1) a.tokens.now a.at q.opener.result in
       done (asked m) (span-children p.before) w (first-here m) c.before.before.block.ensures
       (rw q.opener.ensures
-      (sym (last_block _ _ (is-structure p.before) (λ e. p.if2.false (m.before.before.kind.ensures ∙ e)) _ _ _)))
+      (sym (last_block _ _ (is_structure_lem p.before) (λ e. p.if2.false (m.before.before.kind.ensures ∙ e)) _ _ _)))
 
   build-same-length-2 : build-lts.Need-same-length-2 (calls t) (build-at t) build.Post
   build-same-length-2 c = built_length (asked c.before.before.before.before.before.before.before) (build-returns-2 c)
