@@ -1,6 +1,6 @@
 -- Whether a quoted name stays quoted, by the roles in the row; with the roles in force there, whether its bytes are an operator.
 use mathlib.Core.Path.{◌≡◌, refl, ap}
-use mathlib.Core.Bool.{true, ◌||◌, not, or_true}
+use mathlib.Core.Bool.{true, ◌||◌, not, or-true}
 use mathlib.Core.List.{List}
 use mathlib.Core.Option.{Option, none, some}
 use Prim.Native.Nat.{ℕ}
@@ -23,11 +23,11 @@ module _ (R : List ℕ) (i : ℕ) (c : Bytes) where
 
   pub quoted_infix : (infixed R i ≡ 0 → ⊥) → true ≡ stays_quoted R i c
   unfolding stays_quoted has_roles
-  quoted_infix d = rw (ne_eqb (infixed R i) 0 d, stays_quoted, has_roles, or_true (not (eqb (prefix R i) 0)))
+  quoted_infix d = rw (ne_eqb (infixed R i) 0 d, stays_quoted, has_roles, or-true (not (eqb (prefix R i) 0)))
 
   pub quoted_postfix : (postfix R i ≡ 0 → ⊥) → true ≡ stays_quoted R i c
   unfolding stays_quoted has_roles
-  quoted_postfix d = rw (ne_eqb (postfix R i) 0 d, stays_quoted, has_roles, or_true (not (eqb (prefix R i) 0) || not (eqb (infixed R i) 0)))
+  quoted_postfix d = rw (ne_eqb (postfix R i) 0 d, stays_quoted, has_roles, or-true (not (eqb (prefix R i) 0) || not (eqb (infixed R i) 0)))
 
   pub quoted_none : prefix R i ≡ 0 → infixed R i ≡ 0 → postfix R i ≡ 0 → not (is_symbol c) ≡ stays_quoted R i c
   unfolding stays_quoted has_roles

@@ -1,7 +1,7 @@
 -- What the tokens of a text leave once the brackets that stay have their bytes: a bracket that stays and any token but a number or quoted
 -- name all its bytes, a number its digits without zeros, a name its bytes as written, in quotes where it cannot stand bare.
 use mathlib.Core.Path.{◌≡◌, refl, sym, ap, ap₂, ◌∙◌}
-use mathlib.Core.Bool.{Bool, true, false, ◌&&◌, ◌||◌, not, or_true}
+use mathlib.Core.Bool.{Bool, true, false, ◌&&◌, ◌||◌, not, or-true}
 use mathlib.Core.List.{List, [], ◌∷◌, ◌++◌}
 use Prim.Native.Nat.{ℕ, ◌+◌, ◌-◌, ◌≤◌, ◌<◌}
 use native.Mathlib.Omega.{arith}
@@ -206,7 +206,7 @@ module _ {text : Bytes} {ps : List Placed} {K : List ℕ} (v : Stored text ps K)
           go true p false q =
               part_bare R j _ (same_kind ∙ n) (stays false (rw (roles false q, p))) ∙ named ∙ bare (sym (bare_alike U c) ∙ rw (p, q))
           go false p y q =
-              part_quoted R j _ (same_kind ∙ n) (stays true (rw (roles y q, p) (or_true y))) ∙ ap (λ b. 39 ∷ b ++ 39 ∷ []) named
+              part_quoted R j _ (same_kind ∙ n) (stays true (rw (roles y q, p) (or-true y))) ∙ ap (λ b. 39 ∷ b ++ 39 ∷ []) named
               ∙ enclosed (sym (bare_alike U c) ∙ rw p)
 
       -- A bracket that stays leaves its byte.

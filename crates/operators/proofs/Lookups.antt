@@ -1,7 +1,7 @@
 -- For callers: what the search of a name says of the operators in force, and what a declaration does to their number and to the overloading rule.
 -- The search and the operators in force both take the first entry of the name: by induction on the number of entries.
 use mathlib.Core.Path.{◌≡◌, refl, sym, ap, fun_ext, ◌∙◌}
-use mathlib.Core.Bool.{Bool, true, false, or_true}
+use mathlib.Core.Bool.{Bool, true, false, or-true}
 use mathlib.Core.Logic.{⊎_elim}
 use mathlib.Core.List.{List, [], ◌∷◌}
 use mathlib.Core.Option.{none}
@@ -217,7 +217,7 @@ kept :
     → (every_operator lawful T ≡ true → every_operator lawful U ≡ true) → permitted U ≡ true
 unfolding permitted
 kept T U e f g =
-    ⊎_elim (λ h. rw (f h)) (λ h. rw (g h) (or_true (every_operator is_apart U))) (or_cases (every_operator is_apart T) (every_operator lawful T) e)
+    ⊎_elim (λ h. rw (f h)) (λ h. rw (g h) (or-true (every_operator is_apart U))) (or_cases (every_operator is_apart T) (every_operator lawful T) e)
 
 pub declared-permitted :
     (m : Bytes) (f : Fixity) (r : Role) (T : G.Table) → permitted T ≡ true → ((g : Fixity) → role T m g ≡ none) → permitted (declare_role m f r T) ≡ true

@@ -1,7 +1,7 @@
 -- Roles by their numbers: what the tests of the overloading rule come to as tests of numbers.
 -- Each law is by cases on where the number lies, or on whether there is a role.
 use mathlib.Core.Path.{◌≡◌, refl, sym, ◌∙◌}
-use mathlib.Core.Bool.{Bool, true, false, not, and-true, and_false}
+use mathlib.Core.Bool.{Bool, true, false, not, and-true, and-false}
 use mathlib.Core.Option.{Option, none, some}
 use Prim.Native.Nat.{ℕ, ◌≤◌, ◌<◌}
 use native.Mathlib.Omega.{arith}
@@ -121,7 +121,7 @@ one_precedence_both a b h k = some_role a h (λ p d. some_role b k (λ q e. rw (
 module _ (i : ℕ) (p : Option Role) where
   pub right_absent : (q : ℕ) → 6144 ≤ i → (q ≡ 0 → ⊥) → lawful_associativities p (role_of i) (role_of q) ≡ false
   unfolding lawful_associativities beside_infix
-  right_absent q h d = rw (right-role i h, is_present q d, and_false)
+  right_absent q h d = rw (right-role i h, is_present q d, and-false)
 
   pub right_beside : (q : ℕ) → 6144 ≤ i → q ≡ 0 → lawful_associativities p (role_of i) (role_of q) ≡ only right p
   unfolding lawful_associativities beside_infix

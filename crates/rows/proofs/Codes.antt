@@ -1,7 +1,7 @@
 -- Roles as numbers: which role a number stands for, by where it lies; that a role's number stands for that role; and what the tests of
 -- `role` come to. Each law is by cases on the tests of the number.
 use mathlib.Core.Path.{◌≡◌, refl, sym, ap, ◌∙◌}
-use mathlib.Core.Bool.{Bool, true, false, ◌&&◌, ◌||◌, not, and-true, and_false, or_false}
+use mathlib.Core.Bool.{Bool, true, false, ◌&&◌, ◌||◌, not, and-true, and-false, or-false}
 use mathlib.Core.Option.{Option, none, some}
 use Prim.Native.Nat.{ℕ, suc, ◌+◌, ◌-◌, ◌≤◌, ◌<◌}
 use native.Mathlib.Omega.{arith}
@@ -177,7 +177,7 @@ at_most a b t e = rw (e, and-true) (go (leb a b) refl)
         let h = leb-false a b e in rw (le-ltb a b (omega arith), ne_eqb a b (λ q. omega arith), e)
 
 only_below : (a b : ℕ) (t : Bool) → t ≡ false → ltb a b || (eqb a b && t) ≡ ltb a b
-only_below a b t e = rw (e, and_false, or_false)
+only_below a b t e = rw (e, and-false, or-false)
 
 -- A waiting operator gives way: what its number says of what comes.
 module _ (c a : ℕ) where
@@ -258,7 +258,7 @@ module _ (c o : ℕ) (q : Role) (e : role_of c ≡ some q) where
   admits_left_below h = left_below (rw (le-ltb c 4096 h))
 
   pub admits-left-right : 6144 ≤ o → admits on_left q (role_of o) ≡ ltb (root_precedence (role_of o)) (root_precedence (role_of c))
-  admits-left-right h = left_below (rw (le-leb 6144 o h, and_false))
+  admits-left-right h = left_below (rw (le-leb 6144 o h, and-false))
 
   pub admits-right-same : 6144 ≤ c → admits on_right q (role_of o) ≡ leb (root_precedence (role_of o) + 6144) c
   unfolding admits admits_equal
