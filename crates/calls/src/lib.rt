@@ -6,14 +6,14 @@ ghost use Rattle.calls.specs.Calls.{fresh, begun_by, named, name_after, name_tex
 use hex_lines::lines::Line;
 
 // The services. The listing has no name: it is asked for by lines that have a text alone.
-#[derive(Drop)]
+#[derive(Clone, Copy)]
 pub enum Service {
     Listing,
     Locate,
 }
 
 // How a line is written: a text alone, of which the listing is asked for, or a call by name.
-#[derive(Drop)]
+#[derive(Clone, Copy)]
 pub enum Format {
     Texts,
     Calls,
@@ -21,7 +21,7 @@ pub enum Format {
 
 // What is known of a line: so many characters of a name; a service and a space behind its name; a service and `-`; a service and characters of
 // its text; or that the line is no call.
-#[derive(Drop)]
+#[derive(Clone, Copy)]
 pub enum Call {
     Name { length: usize },
     Start { service: Service },
@@ -31,7 +31,7 @@ pub enum Call {
 }
 
 // What a whole line asks for: a service of the first bytes of the buffer, or nothing.
-#[derive(Drop)]
+#[derive(Clone, Copy)]
 pub enum Request {
     Text { service: Service, kept: usize },
     Nothing,

@@ -1,5 +1,4 @@
 pub mod TokenPlaces
-pub mod Held
 pub mod Precedences
 pub mod Words
 pub mod Parts

@@ -37,7 +37,7 @@ pub struct Table {
     pub count: usize,
 }
 
-#[derive(Drop)]
+#[derive(Clone, Copy)]
 pub enum Found {
     At { entry: usize },
     Nothing,

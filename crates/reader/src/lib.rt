@@ -8,7 +8,7 @@ use serving::{Served, Service};
 
 // Document 01's answer: number 0 with the count of what was written, or the number and the place of a refusal.
 #[repr(C)]
-#[derive(Drop)]
+#[derive(Clone, Copy)]
 pub struct Answer {
     pub number: u8,
     pub offset: usize,

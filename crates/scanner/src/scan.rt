@@ -1,7 +1,7 @@
 // All tokens of a text.
 ghost use Rattle.std.specs.Prelude.{◌≡◌, length};
 ghost use Rattle.grammar.specs.Fault.{most_tokens};
-ghost use Rattle.grammar.specs.Scan.{scan as scanOf};
+ghost use Rattle.grammar.specs.Scan.{scan as scan_of};
 ghost use Rattle.scanner.specs.Classes.{IsTable};
 ghost use Rattle.scanner.specs.Scanning.{Scannable, Storable, Stores, Scans};
 
@@ -46,7 +46,7 @@ fn store(tokens: &mut [u16], n: usize, kind: u16, at: usize, size: usize)
 // The tokens of a text that is not too long.
 pub fn scan(table: &[u8; 256], text: &[u8], tokens: &mut [u16]) -> Scanned
     requires { IsTable table.now × Scannable text.now tokens.old }
-    ensures scanned { Scans text.now tokens.new (scanOf most_tokens 0 text.now) result }
+    ensures scanned { Scans text.now tokens.new (scan_of most_tokens 0 text.now) result }
     ensures long { length tokens.new ≡ length tokens.old }
 {
     let mut n: usize = 0;

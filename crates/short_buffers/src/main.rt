@@ -115,7 +115,7 @@ fn write_into(text: &[u8], name: bool, word: &[u8], len: usize)
     report(text, len, b" bytes: ", word, a, &words, a.count);
 }
 
-#[derive(Drop)]
+#[derive(Clone, Copy)]
 enum Service {
     Read,
     Canonicalize,
