@@ -6,7 +6,7 @@ ghost use Rattle.declaration_part.specs.Walking.{Next, Walked};
 
 use scanner::runs;
 
-#[derive(Drop)]
+#[derive(Clone, Copy)]
 pub struct Walk<'a> {
     pub text: &'a [u8],
     pub at: usize,

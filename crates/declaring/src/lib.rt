@@ -117,7 +117,8 @@ pub fn declare_all(
                     };
                 }
                 let count = t.count;
-                t = t.clear(table::find(text, &t.words, &t.hints, count, cleared));
+                let found = table::find(text, &t.words, &t.hints, count, cleared);
+                t = t.clear(found);
                 before = end;
                 at += 3;
             }

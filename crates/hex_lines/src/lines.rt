@@ -30,7 +30,7 @@ pub fn digit(b: u8) -> u8
 
 // What is known of a line: whether it has a character, whether one of them was no digit, how many bytes of its text are kept, and
 // the value of a digit that waits for the second one of its byte (16: none waits).
-#[derive(Drop)]
+#[derive(Clone, Copy)]
 pub struct Line {
     pub begun: bool,
     pub bad: bool,
