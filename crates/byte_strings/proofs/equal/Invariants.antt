@@ -1,0 +1,15 @@
+-- The loop's invariant: the two are the same if what is left of them is. Assumes nothing.
+use mathlib.Core.Path.{◌≡◌, refl, sym, ◌∙◌}
+use Prim.Native.Nat.{◌-◌}
+use native.Mathlib.Omega.{arith}
+use borrow.Author.Rules.{rules}
+use lib.ListN.{length, drop}
+use Rattle.grammar.specs.Bytes.{same}
+use Rattle.byte_strings.proofs.Suffixes.{same_step, same_stop, same_end, same_length}
+use Rattle.byte_strings.proofs.equal.Given as goal
+
+abbrev pub invariant-loop-i : goal.invariant-loop-i
+invariant-loop-i l = same l.a l.b ≡ same (drop l.i l.a) (drop l.i l.b)
+
+abbrev pub decreases-loop-i : goal.decreases-loop-i
+decreases-loop-i l = length l.a - l.i

@@ -1,0 +1,58 @@
+-- The value at each interval that the tests leave. Assumes nothing.
+use mathlib.Core.Path.{◌≡◌, refl, sym}
+use mathlib.Core.Bool.{false}
+use Prim.Native.Nat.{ℕ, ◌+◌, ◌-◌, ◌≤◌, ◌<◌}
+use native.Mathlib.Omega.{arith}
+use borrow.Author.Rules.{rules}
+use Rattle.hex_lines.specs.Hexadecimal.{between, digit_value}
+use Rattle.hex_lines.proofs.Characters.{inside, below, above}
+use Rattle.hex_lines.proofs.lines.digit.Goals as goal
+
+no_digit
+    : (b : ℕ) → between 48 57 b ≡ false → between 65 70 b ≡ false → between 97 102 b ≡ false → digit_value b ≡ 16
+unfolding digit_value
+no_digit b e f g = rw (e, f, g, digit_value) refl
+
+decimal_digit : (b : ℕ) → 48 ≤ b → b ≤ 57 → digit_value b ≡ b - 48
+unfolding digit_value
+decimal_digit b h g = rw (inside 48 57 b h g, digit_value) refl
+
+capital-digit : (b : ℕ) → 65 ≤ b → b ≤ 70 → digit_value b ≡ b - 65 + 10
+unfolding digit_value
+capital-digit b h g = let e : 57 < b = omega arith in rw (above 48 57 b e, inside 65 70 b h g, digit_value) (omega arith)
+
+small-digit : (b : ℕ) → 97 ≤ b → b ≤ 102 → digit_value b ≡ b - 97 + 10
+unfolding digit_value
+small-digit b h g =
+    let e : 57 < b = omega arith in
+    let f : 70 < b = omega arith in
+    rw (above 48 57 b e, above 65 70 b f, inside 97 102 b h g, digit_value) (omega arith)
+
+pub returns-then-b-lt48 : goal.returns-then-b-lt48
+returns-then-b-lt48 c =
+    let b = c.args.b in
+    (sym (no_digit b (below 48 57 b (omega arith)) (below 65 70 b (omega arith)) (below 97 102 b (omega arith))), search rules)
+
+pub returns-then-b-le57 : goal.returns-then-b-le57
+returns-then-b-le57 c = (sym (decimal_digit c.args.b (omega arith) (omega arith)), search rules)
+
+pub returns-then-b-lt65 : goal.returns-then-b-lt65
+returns-then-b-lt65 c =
+    let b = c.args.b in
+    (sym (no_digit b (above 48 57 b (omega arith)) (below 65 70 b (omega arith)) (below 97 102 b (omega arith))), search rules)
+
+pub returns-then-b-le70 : goal.returns-then-b-le70
+returns-then-b-le70 c = (sym (capital-digit c.args.b (omega arith) (omega arith)), search rules)
+
+pub returns-then-b-lt97 : goal.returns-then-b-lt97
+returns-then-b-lt97 c =
+    let b = c.args.b in
+    (sym (no_digit b (above 48 57 b (omega arith)) (above 65 70 b (omega arith)) (below 97 102 b (omega arith))), search rules)
+
+pub returns-then-b-le102 : goal.returns-then-b-le102
+returns-then-b-le102 c = (sym (small-digit c.args.b (omega arith) (omega arith)), search rules)
+
+pub returns : goal.returns
+returns c =
+    let b = c.args.b in
+    (sym (no_digit b (above 48 57 b (omega arith)) (above 65 70 b (omega arith)) (above 97 102 b (omega arith))), search rules)

@@ -1,0 +1,12 @@
+-- The text of the answer stands in the line. Assumes nothing.
+use mathlib.Core.Path.{refl}
+use native.Mathlib.Omega.{arith}
+use borrow.Author.Rules.{rules}
+use Rattle.listing.proofs.Puts.{put_within, put_taken}
+use Rattle.listing.proofs.print_answer.Goals as goal
+
+pub slice_bounds-line-end : goal.slice_bounds-line-end
+slice_bounds-line-end c = put_within c.put_answer-n.ensures.0 refl (omega arith)
+
+pub slice_bounds-write_all-end : goal.slice_bounds-write_all-end
+slice_bounds-write_all-end c = put_taken c.put_answer-n.ensures.0 refl (omega arith)

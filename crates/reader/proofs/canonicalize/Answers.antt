@@ -1,0 +1,7 @@
+-- What the front leaves is what the service promises.
+use borrow.Author.Rules.{rules}
+use Rattle.reader.proofs.HandedOut.{canonicalize_handed_out}
+use Rattle.reader.proofs.canonicalize.Goals as goal
+
+pub returns : goal.returns
+returns c = canonicalize_handed_out c.handed_out.ensures c.serve.ensures
