@@ -1,4 +1,6 @@
 // The classes of bytes, and the token rules of document 01 that give each byte its class.
+#![tactic(auto)]
+
 ghost use Rattle.std.specs.Prelude.{◌≡◌};
 ghost use Rattle.grammar.specs.Token.{class as class_of};
 

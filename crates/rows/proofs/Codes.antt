@@ -269,4 +269,5 @@ module _ (c o : ℕ) (q : Role) (e : role_of c ≡ some q) where
 
   pub admits_right_below : c < 6144 → admits on_right q (role_of o) ≡ ltb (root_precedence (role_of o)) (root_precedence (role_of c))
   unfolding admits admits_equal
-  admits_right_below h = rw (← role_precedence c q e) (only_below (root_precedence (role_of o)) q.precedence _ (is_right-role c q e ∙ lt-leb 6144 c h))
+  admits_right_below h =
+      rw (← role_precedence c q e) (only_below (root_precedence (role_of o)) q.precedence _ (is_right-role c q e ∙ lt-leb 6144 c h))

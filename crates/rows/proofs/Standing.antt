@@ -66,7 +66,8 @@ module _ (text : Bytes) (K R : List ℕ) where
       let h = sym (items_single text K i to l k) ∙ e in
       let r = agrees_split p xs ys (cc h) in
       let o = agrees_ordered r.1.front in
-      (r.0, more i (suc i) r.0 to T x _ xs ys (cc h) (omega arith) r.1 (atoms (omega arith) k n r.1.front) (items_single text K i r.0 (omega arith) k))
+      let m = items_single text K i r.0 (omega arith) k in
+      (r.0, more i (suc i) r.0 to T x _ xs ys (cc h) (omega arith) r.1 (atoms (omega arith) k n r.1.front) m)
   agrees_split (brackets {T} {i} {to} c k w l m y a p q) (x ∷ xs) ys e =
       let h = sym (items_bracket text K i c to k l m y (agrees_paired p)) ∙ e in
       let r = agrees_split q xs ys (cc h) in
@@ -187,7 +188,8 @@ module _ (text : Bytes) (K R : List ℕ) where
 all_append : (xs ys : List Item) → all_item_tokens (xs ++ ys) ≡ all_item_tokens xs ++ all_item_tokens ys
 unfolding all_item_tokens
 all_append [] ys = refl
-all_append (x ∷ xs) ys = ap (λ ts. item_tokens x ++ ts) (all_append xs ys) ∙ sym (append_assoc (item_tokens x) (all_item_tokens xs) (all_item_tokens ys))
+all_append (x ∷ xs) ys =
+    ap (λ ts. item_tokens x ++ ts) (all_append xs ys) ∙ sym (append_assoc (item_tokens x) (all_item_tokens xs) (all_item_tokens ys))
 
 -- The tokens of a tree are those of its span's items.
 pub span_tokens : (t : Tree) → all_item_tokens (yield (span_tree t)) ≡ flat t

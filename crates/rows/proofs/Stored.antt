@@ -23,7 +23,8 @@ use Rattle.rows.specs.Fields.{kind, start, first_byte, size}
 use Rattle.rows.specs.Tokens.{written_of, token_in, range, place_of, size_of, kind_at, place_at, size_at, Stored}
 use Rattle.rows.proofs.Fields.{first_quoted, first_other}
 use Rattle.rows.proofs.Ranges.{length-range, range_token}
-use Rattle.rows.proofs.TokenBytes.{kind_bounds, place_quoted, place_plain, token_ends, size_bound, size_plain, size_atom, token_bytes, written-within, place_within, read-doubled, token_read}
+use Rattle.rows.proofs.TokenBytes.{kind_bounds, place_quoted, place_plain, token_ends, size_bound, size_plain, size_atom}
+use Rattle.rows.proofs.TokenBytes.{token_bytes, written-within, place_within, read-doubled, token_read}
 
 abbrev start_at : Placed → ℕ
 start_at p = p.start
@@ -201,7 +202,9 @@ module _ {text : Bytes} {ps : List Placed} {K : List ℕ} (v : Stored text ps K)
       (omega (arith, length-range text K 0 (length ps), length_tokens ps))
       same
     where
-      same : (j : ℕ) → j < length (range text K 0 (length ps)) → get_or (range text K 0 (length ps)) j (structure semicolon) ≡ get_or (tokens_of ps) j (structure semicolon)
+      same :
+          (j : ℕ) → j < length (range text K 0 (length ps))
+          → get_or (range text K 0 (length ps)) j (structure semicolon) ≡ get_or (tokens_of ps) j (structure semicolon)
       same j l =
           let h : j < length ps = omega (arith, length-range text K 0 (length ps)) in
           range_token text K 0 (length ps) j (structure semicolon) (omega arith)

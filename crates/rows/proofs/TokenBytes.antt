@@ -195,7 +195,8 @@ token_bytes (structure keyword_end) e = omega arith
 
 -- They begin and end within the token.
 pub written-within : (t : Token) (at : ℕ) → place_of t at + size_of t ≤ at + length (spelling t)
-written-within t at = enclosed_cases (kind_of t) (λ l m. omega (arith, (token_ends t at).enclosed l m)) (λ d. omega (arith, (token_ends t at).plain d))
+written-within t at =
+    enclosed_cases (kind_of t) (λ l m. omega (arith, (token_ends t at).enclosed l m)) (λ d. omega (arith, (token_ends t at).plain d))
 
 pub place_within : (t : Token) (at : ℕ) → is_token t ≡ true → place_of t at < at + length (spelling t)
 place_within t at e =

@@ -61,7 +61,9 @@ tree_holding T (node l m r) a i = (
 
 module _ {text : Bytes} {ps : List Placed} {K : List ℕ} (v : Stored text ps K) (R : List ℕ) where
   -- What the row has of an atom.
-  atom_kind_lem : {T : Table} {i to : ℕ} {a : Atom} {ys : List Span.Item} → to ≤ length ps → AtomHere text K R T i to a ys → kind K i ≡ kind_of (atom a)
+  atom_kind_lem :
+      {T : Table} {i to : ℕ} {a : Atom} {ys : List Span.Item} → to ≤ length ps
+      → AtomHere text K R T i to a ys → kind K i ≡ kind_of (atom a)
   atom_kind_lem {i = i} l h = stored_kind v i (omega (arith, h.within)) ∙ ap kind_of (token_atom text K i h.is_atom ∙ ap atom h.same)
 
   atom_token : {T : Table} {i to : ℕ} {a : Atom} {ys : List Span.Item} → AtomHere text K R T i to a ys → token_in text K i ≡ atom a

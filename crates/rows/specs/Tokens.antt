@@ -3,8 +3,8 @@
 use Rattle.std.specs.Prelude.{◌≡◌, true, false, List, [], ◌∷◌, map, ℕ, zero, suc, ◌-◌, ◌≤◌, ◌<◌, eqb, length, take, drop, get_or}
 use Rattle.grammar.specs.Bytes.{Bytes}
 use Rattle.grammar.specs.Fault.{most_tokens}
-use Rattle.grammar.specs.Token.{Token, Atom, atom, structure, symbol, number, quoted, opening, closing, semicolon, keyword_let, keyword_in, keyword_end}
-use Rattle.grammar.specs.Token.{Structure, as_written, undoubled}
+use Rattle.grammar.specs.Token.{Token, Atom, atom, structure, symbol, number, quoted, opening, closing, semicolon}
+use Rattle.grammar.specs.Token.{keyword_let, keyword_in, keyword_end, Structure, as_written, undoubled}
 use Rattle.grammar.specs.Outcome.{passed}
 use Rattle.grammar.specs.Scan.{Placed, scan}
 use Rattle.grammar.specs.Coded.{kind_of, token_of}

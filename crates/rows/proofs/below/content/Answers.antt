@@ -1,10 +1,7 @@
 -- The loop's invariant: from here one comes to the same root. The measure is how many tokens may still come.
 use mathlib.Core.Path.{◌≡◌, sym, ◌∙◌}
-use Prim.Native.Nat.{ℕ, ◌-◌}
 use native.Mathlib.Omega.{arith}
-use Rattle.grammar.specs.Fault.{most_tokens}
 use Rattle.rows.specs.Fields.{kind}
-use Rattle.rows.specs.Below.{Leads}
 use Rattle.rows.proofs.BelowTokens.{leads_within, leads_there, leads_through}
 use Rattle.rows.proofs.below.content.Goals as goal
 use Rattle.rows.proofs.below.content.Goals.{In-loop-at}
@@ -28,10 +25,13 @@ is-pair : (c : In-loop-at) → kind c.args.tokens.now c.loop-at.at ≡ 4
 is-pair c = sym c.kind.ensures ∙ c.loop-at-test.true
 
 pub left-at-requires-in-loop-at : goal.left-at-requires-in-loop-at
-left-at-requires-in-loop-at c = (leads_through c.loop-at.invariant.0.1 (is-pair (goal.at.left-at-requires-in-loop-at c).In-loop-at)).within
+left-at-requires-in-loop-at c =
+    (leads_through c.loop-at.invariant.0.1 (is-pair (goal.at.left-at-requires-in-loop-at c).In-loop-at)).within
 
 pub overflow_sub-at-in-loop-at : goal.overflow_sub-at-in-loop-at
-overflow_sub-at-in-loop-at c = omega (arith, c.left-at-in-loop-at.ensures, (leads_through c.loop-at.invariant.0.1 (is-pair (goal.at.overflow_sub-at-in-loop-at c).In-loop-at)).some)
+overflow_sub-at-in-loop-at c =
+    let k = is-pair (goal.at.overflow_sub-at-in-loop-at c).In-loop-at in
+    omega (arith, c.left-at-in-loop-at.ensures, (leads_through c.loop-at.invariant.0.1 k).some)
 
 pub loop-at-smaller : goal.loop-at-smaller
 loop-at-smaller c =

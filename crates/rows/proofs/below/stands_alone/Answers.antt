@@ -3,7 +3,6 @@ use mathlib.Core.Path.{sym, ap, ◌∙◌}
 use native.Mathlib.Omega.{arith}
 use lib.Dec.{eqb}
 use Rattle.rows.proofs.BelowTokens.{alone_structure, alone_left, alone_right}
-use borrow.Author.Rules.{rules}
 use Rattle.rows.proofs.below.stands_alone.Goals as goal
 
 pub returns-then-kind-gt-QUOTED : goal.returns-then-kind-gt-QUOTED

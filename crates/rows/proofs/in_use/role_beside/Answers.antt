@@ -1,6 +1,5 @@
 -- The number of the role by the operands, case by case.
 use mathlib.Core.Path.{sym, ◌∙◌}
-use borrow.Author.Rules.{rules}
 use Rattle.rows.proofs.InUse.{beside_none, beside_prefix, beside_postfix, beside_infix_lem}
 use Rattle.rows.proofs.in_use.role_beside.Goals as goal
 

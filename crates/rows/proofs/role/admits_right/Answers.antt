@@ -1,7 +1,6 @@
 -- An operand of the same precedence is admitted where the operator is right-associative.
 use mathlib.Core.Path.{sym, ◌∙◌}
 use native.Mathlib.Omega.{arith}
-use borrow.Author.Rules.{rules}
 use borrow.Author.Tests.{leb-true, leb-false}
 use Rattle.rows.proofs.Codes.{precedence_bound, admits-right-same, admits_right_below}
 use Rattle.rows.proofs.role.admits_right.Goals as goal

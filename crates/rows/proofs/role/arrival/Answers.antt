@@ -2,7 +2,6 @@
 use mathlib.Core.Path.{sym}
 use native.Mathlib.Numerals.{add-one}
 use native.Mathlib.Omega.{arith}
-use borrow.Author.Rules.{rules}
 use Rattle.rows.proofs.Codes.{precedence_bound, arrival_infix, arrival-postfix, arrival-prefix, arrival_none}
 use Rattle.rows.proofs.role.arrival.Goals as goal
 

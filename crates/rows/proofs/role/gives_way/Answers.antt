@@ -1,7 +1,6 @@
 -- Whether it gives way, by where the number lies: within one associativity the order of numbers is that of precedences.
 use mathlib.Core.Path.{sym, ◌∙◌}
 use native.Mathlib.Omega.{arith}
-use borrow.Author.Rules.{rules}
 use borrow.Author.Tests.{ltb-true, ltb-false, leb-true, leb-false}
 use Rattle.rows.proofs.Codes.{code_bound, gives_none, gives_left, gives_non, gives_right}
 use Rattle.rows.proofs.role.gives_way.Goals as goal

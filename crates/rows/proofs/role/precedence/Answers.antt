@@ -2,7 +2,6 @@
 -- or between.
 use mathlib.Core.Path.{sym, ◌∙◌}
 use native.Mathlib.Omega.{arith}
-use borrow.Author.Rules.{rules}
 use borrow.Author.Tests.{ltb-true, ltb-false, leb-true, leb-false}
 use Rattle.rows.proofs.Codes.{left_bounds, no_precedence, left_precedence, non_precedence, right_precedence}
 use Rattle.rows.proofs.role.precedence.Goals as goal
