@@ -13,7 +13,7 @@ use Rattle.grammar.specs.Outcome.{Outcome, refused, passed, and_then}
 use Rattle.grammar.specs.Operator.{Table, Distinct}
 use Rattle.grammar.specs.Declaration.{Declaration, declare_all, declarations, all_tokens, start_table, enter}
 use Rattle.grammar.specs.Nesting.{nesting}
-use Rattle.grammar.specs.Span.{Item, single, pair, scope, item_tokens, all_item_tokens, ItemsOf, body, items}
+use Rattle.grammar.specs.Span.{Item, single, pair, scope, item_tokens, all_item_tokens, ItemsOf, items}
 use Rattle.grammar.specs.Spans.{Span, start_of, number_behind, whole_span, pair_span, body_span, SpanIn, itself, BlockOf}
 use Rattle.grammar.specs.Blocks.{check_item, check_items, check_blocks}
 use Rattle.grammar.specs.Fault.{current, DeclarationFault, BlockFault}

@@ -1,4 +1,6 @@
 // The characters of a name, from its bytes as written between the outer quotes: a pair of quotes is one character.
+#![tactic(auto)]
+
 ghost use Rattle.std.specs.Prelude.{◌≡◌, ◌≤◌, length};
 ghost use Rattle.grammar.specs.Token.{undoubled};
 ghost use Rattle.grammar.specs.Answer.{over};

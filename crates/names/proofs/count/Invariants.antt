@@ -1,12 +1,8 @@
--- The loop's invariant: the characters counted and those from `i` on are all. Assumes nothing.
-use mathlib.Core.Path.{◌≡◌, ap}
-use Prim.Native.Nat.{ℕ, ◌+◌, ◌-◌, ◌≤◌}
-use native.Mathlib.Omega.{arith}
-use borrow.Author.Rules.{rules}
-use lib.ListN.{length, drop, get_or}
-use Rattle.grammar.specs.Bytes.{Bytes}
+-- The loop's invariant: the characters counted and those from `i` on are all.
+use mathlib.Core.Path.{◌≡◌}
+use Prim.Native.Nat.{◌+◌, ◌-◌, ◌≤◌}
+use lib.ListN.{length, drop}
 use Rattle.grammar.specs.Token.{undoubled}
-use Rattle.names.proofs.Characters.{some_wide, undoubled_next, undoubled_end}
 use Rattle.names.proofs.count.Given as goal
 
 abbrev pub invariant-loop-i : goal.invariant-loop-i

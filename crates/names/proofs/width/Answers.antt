@@ -1,4 +1,4 @@
--- By whether the byte is a quote. Assumes nothing.
+-- By whether the byte is a quote.
 use Rattle.names.proofs.Characters.{quote_wide, other_wide}
 use Rattle.names.proofs.width.Goals as goal
 

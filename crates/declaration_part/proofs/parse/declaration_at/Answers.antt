@@ -1,5 +1,5 @@
 -- The code reads the tokens in the order of `declaration`: where it goes on, the declaration is the next part at the token behind, which
--- stands where the reader has passed it. Assumes nothing.
+-- stands where the reader has passed it.
 use mathlib.Core.Path.{◌≡◌, refl, sym, ap, ap₂, ◌∙◌}
 use mathlib.Core.Bool.{true, false, true≢false}
 use mathlib.Core.List.{List, []}
@@ -15,8 +15,8 @@ use Rattle.grammar.specs.Declaration.{declaration, first_word, operator_part, as
 use Rattle.rows.proofs.Stored.{stored_end, stored_offset, stored_ascend}
 use Rattle.declaration_part.specs.declared.parse.Parsed.TheVariants.{Clears}
 use Rattle.declaration_part.specs.declared.walk.Places.{Places}
-use Rattle.declaration_part.specs.Walking.{second_begin}
-use Rattle.declaration_part.specs.Parsing.{precedence_code, fixity_number, associativity_number}
+use Rattle.declaration_part.specs.Walking.{second_begin, Walked}
+use Rattle.declaration_part.specs.Parsing.{precedence_code, fixity_number, associativity_number, Parsable}
 use Rattle.declaration_part.specs.Parts.{written_from}
 use Rattle.declaration_part.proofs.Precedences.{precedence_bound, precedence_empty}
 use Rattle.declaration_part.proofs.Words.{side_of, fixity_bound, associativity_bound, fixity_empty, associativity_empty}
@@ -36,247 +36,147 @@ use Rattle.declaration_part.proofs.DeclarationParts.{
 }
 use Rattle.declaration_part.proofs.DeclarationRow.{Gone, read_unfit, read_on, operator_unfit, operator_given}
 use Rattle.declaration_part.proofs.parse.declaration_at.Goals as goal
-use Rattle.declaration_part.proofs.parse.declaration_at.Goals.{After-equal, After-find_places-p, After-word_of-side, After-word_of-word, Else-associativity-eq-NO_SIDE, Else-equal, Else-fixity-eq-NONE, Else-level-eq0, Start, Then-equal}
-
--- The places behind which the code has found the places of the tokens, and has read a word, its fixity, a second word, its associativity
--- and a number.
-abbrev start : After-find_places-p → Start
-start c = c
-
-abbrev places : After-find_places-p → Places
-places c = c.find_places-p.result
-
-abbrev word : After-word_of-word → Bytes
-word c = c.word_of-word.result.now
-
-abbrev worded : After-equal → After-word_of-word
-worded c = c
-
-abbrev fixed : Else-fixity-eq-NONE → After-word_of-word
-fixed c = worded c
-
-abbrev fixity : Else-fixity-eq-NONE → ℕ
-fixity c = c.fixity_named-fixity.result
-
-abbrev side : After-word_of-side → Bytes
-side c = c.word_of-side.result.now
-
-abbrev sided : Else-associativity-eq-NO_SIDE → After-word_of-side
-sided c = c
-
-abbrev associativity : Else-associativity-eq-NO_SIDE → ℕ
-associativity c = c.associativity_named_lem.result
-
-abbrev levelled : Else-level-eq0 → Else-associativity-eq-NO_SIDE
-levelled c = c
-
--- Where the places were found.
-abbrev found₂ : Else-fixity-eq-NONE → After-find_places-p
-found₂ c = (fixed c)
-
-abbrev found₃ : Else-associativity-eq-NO_SIDE → After-find_places-p
-found₃ c = found₂ (sided c)
-
--- The digits of the precedence.
-abbrev digits : Else-associativity-eq-NO_SIDE → Bytes
-digits c =
-    let f = found₃ c in
-    let s = start f in
-    written_from 2 s.args.text.now s.args.tokens.now (s.args.from + 2) s.args.to (places f).third (places f).third_end
-
--- The parts behind the associativity and behind the precedence.
-abbrev behind-side : Else-associativity-eq-NO_SIDE → List Token → Parsed
-behind-side c = precedence_part (fixity_of (fixity (sided c))) (side_of (associativity c))
-
-abbrev behind-digits : Else-associativity-eq-NO_SIDE → List Token → Parsed
-behind-digits c = operator_part 3 (declares (fixity_of (fixity (sided c))) (side_of (associativity c)) (digits c))
 
 -- A number that is not 0 was read off some bytes.
 read_off : (code : Bytes → ℕ) → code [] ≡ 0 → {n : ℕ} {w : Bytes} → n ≡ code w → (n ≡ 0 → ⊥) → w ≡ [] → ⊥
 read_off code none e n z = n (e ∙ ap code z ∙ none)
 
--- The places lie in the text.
-first_within : (s : Start) → second_begin s.args.text.now s.args ≤ length s.args.text.now
-first_within s =
-    let p = s.requires.1 in
-    omega (arith, p.begins, stored_end p.stored, stored_ascend p.stored s.args.from (length p.placed) (omega arith) (omega arith))
+module _ {text : Bytes} {K : List ℕ} {from to before : ℕ} (q : Parsable text K from to before) where
+  -- The places lie in the text.
+  first_within : second_begin text before ≤ length text
+  first_within =
+      omega (arith, q.begins, stored_end q.stored, stored_ascend q.stored from (length q.placed) (omega arith) (omega arith))
 
--- What the declaration is at a token, which stands at a place.
-abbrev Goes : Start → (List Token → Parsed) → ℕ → ℕ → ℕ → Type 0
-Goes s = Gone s.requires.1.stored s.args.from s.args.to s.requires.1.within
+  -- What the declaration is at a token, which stands at a place.
+  abbrev Goes : (List Token → Parsed) → ℕ → ℕ → ℕ → Type 0
+  Goes = Gone q.stored from to q.within
 
-first : (c : After-find_places-p) → Goes (start c) declaration (start c).args.from (places c).first (places c).first_end
-first c =
-    let s = start c in
-    let w = c.find_places-p.ensures in
-    record {
-      goes = refl;
-      begins = λ l q. w.first.0 ∙ s.pre.1.begins ∙ sym (stored_offset s.pre.1.stored _ (omega arith) q);
-      ends = w.first.1;
-    }
+  module _ {p : Places} (w : Walked text before p) where
+    first : Goes declaration from p.first p.first_end
+    first =
+        record {
+          goes = refl;
+          begins = λ l k. w.first.0 ∙ q.begins ∙ sym (stored_offset q.stored _ (omega arith) k);
+          ends = w.first.1;
+        }
 
--- The first word.
-word_on :
-    (c : After-word_of-word) → (word c ≡ [] → ⊥) → {further : List Token → Parsed} → ((ts : List Token) → first_word (word c) ts ≡ further ts)
-    → let f = c in
-    Goes (start f) further ((start f).args.from + 1) (places f).second (places f).second_end
-unfolding declaration symbol_of token_of
-word_on c n f =
-    read_on _ _ _ _ (first c) 1 (omega arith) (word c) c.word_of-word.ensures n _ _ _ refl c.find_places-p.ensures.second f
+    -- The digits of the precedence.
+    abbrev digits : Bytes
+    digits = written_from 2 text K (from + 2) to p.third p.third_end
 
-plain-on :
-    (c : Then-equal) → let f = (worded c) in
-    Goes (start f) (operator_part 1 clears) ((start f).args.from + 1) (places f).second (places f).second_end
-unfolding same
-plain-on c =
-    let h = worded c in
-    let e : same (word h) plain_word ≡ true = sym c.equal.ensures ∙ c.if-equal.true in
-    word_on h (λ z. true≢false (sym e ∙ ap (λ w. same w plain_word) z)) (λ ts. word_plain _ ts e)
+    -- The first word.
+    module _ {v : Bytes} (ev : v ≡ written_from 1 text K from to p.first p.first_end) where
+      word_on :
+          (v ≡ [] → ⊥) → {further : List Token → Parsed} → ((ts : List Token) → first_word v ts ≡ further ts)
+          → Goes further (from + 1) p.second p.second_end
+      unfolding declaration symbol_of token_of
+      word_on n f = read_on _ _ _ _ first 1 (omega arith) v ev n _ _ _ refl w.second f
 
-other_word : (c : Else-equal) → same (word (worded c)) plain_word ≡ false
-other_word c = sym c.equal.ensures ∙ c.if-equal.false
+      plain-on : same v plain_word ≡ true → Goes (operator_part 1 clears) (from + 1) p.second p.second_end
+      unfolding same
+      plain-on e = word_on (λ z. true≢false (sym e ∙ ap (λ v. same v plain_word) z)) (λ ts. word_plain _ ts e)
 
-fixity-on :
-    (c : Else-fixity-eq-NONE) → let f = found₂ c in
-    Goes (start f) (associativity_part (fixity_of (fixity c))) ((start f).args.from + 1) (places f).second (places f).second_end
-fixity-on c =
-    let e = c.fixity_named-fixity.ensures in
-    word_on (fixed c) (read_off fixity_number fixity_empty e c.if-fixity-eq-NONE.false)
-    (λ ts. word-fixity _ ts (other_word c) (fixity c) e c.if-fixity-eq-NONE.false)
+      module _ (o : same v plain_word ≡ false) {f : ℕ} (ef : f ≡ fixity_number v) (nf : f ≡ 0 → ⊥) where
+        fixity-on : Goes (associativity_part (fixity_of f)) (from + 1) p.second p.second_end
+        fixity-on = word_on (read_off fixity_number fixity_empty ef nf) (λ ts. word-fixity _ ts o f ef nf)
 
--- The associativity.
-side-on :
-    (c : Else-associativity-eq-NO_SIDE) → let f = found₃ c in
-    Goes (start f) (behind-side c) ((start f).args.from + 2) (places f).third (places f).third_end
-unfolding token_of
-side-on c =
-    let h = sided c in
-    let k = h in
-    let e = c.associativity_named_lem.ensures in
-    read_on _ _ _ _ (fixity-on k) 1 (omega arith) (side h) h.word_of-side.ensures
-    (read_off (associativity_number (fixity k)) (associativity_empty _) e c.if-associativity-eq-NO_SIDE.false) _ _ _ (omega arith) (found₃ c).find_places-p.ensures.third
-    (λ ts. side_named _ _ ts (associativity c) e c.if-associativity-eq-NO_SIDE.false)
+        -- The associativity.
+        module _ {s : Bytes} (es : s ≡ written_from 1 text K (from + 1) to p.second p.second_end)
+            {a : ℕ} (ea : a ≡ associativity_number f s) (na : a ≡ 0 → ⊥) where
+          side-on : Goes (precedence_part (fixity_of f) (side_of a)) (from + 2) p.third p.third_end
+          unfolding token_of
+          side-on =
+              read_on _ _ _ _ fixity-on 1 (omega arith) s es (read_off (associativity_number f) (associativity_empty _) ea na) _ _ _
+              (omega arith) w.third (λ ts. side_named _ _ ts a ea na)
 
--- The precedence.
-level-on :
-    (c : Else-level-eq0) → let d = levelled c in
-    let f = found₃ d in
-    Goes (start f) (behind-digits d) ((start f).args.from + 3) (places f).fourth (places f).fourth_end
-unfolding token_of
-level-on c =
-    let d = levelled c in
-    let e = c.precedence_of-level.ensures in
-    let some = read_off precedence_code precedence_empty {w = digits d} e c.if-level-eq0.false in
-    read_on _ _ _ _ (side-on d) 2 (omega arith) (digits d) refl some _ _ _ (omega arith) (found₃ d).find_places-p.ensures.fourth
-    (λ ts. digits_given _ _ (digits d) ts c.precedence_of-level.result e c.if-level-eq0.false)
+          -- The precedence.
+          level-on :
+              {l : ℕ} → l ≡ precedence_code digits → (l ≡ 0 → ⊥)
+              → Goes (operator_part 3 (declares (fixity_of f) (side_of a) digits)) (from + 3) p.fourth p.fourth_end
+          unfolding token_of
+          level-on {l} el nl =
+              read_on _ _ _ _ side-on 2 (omega arith) digits refl (read_off precedence_code precedence_empty {w = digits} el nl) _ _ _
+              (omega arith) w.fourth (λ ts. digits_given _ _ digits ts l el nl)
 
 pub word_of-word-requires : goal.word_of-word-requires
-word_of-word-requires c =
-    let p = first_part _ _ c.find_places-p.ensures (first_within (start (goal.at.word_of-word-requires c).After-find_places-p)) in
-    search rules
+word_of-word-requires c = let p = first_part _ _ c.find_places-p.ensures (first_within c.requires.1) in search rules
 
 pub returns-then-e-from : goal.returns-then-e-from
 returns-then-e-from c =
-    let e = c in
-    operator_unfit _ _ _ _ 1 clears _ (plain-on (goal.at.returns-then-e-from c).Then-equal) e.unfit_end-e.result e.unfit_end-e.ensures refl (omega arith)
+    let g = plain-on c.requires.1 c.find_places-p.ensures c.word_of-word.ensures (sym c.equal.ensures ∙ c.if-equal.true) in
+    operator_unfit _ _ _ _ 1 clears _ g _ c.unfit_end-e.ensures refl (omega arith)
 
 pub returns-then-equal : goal.returns-then-equal
 returns-then-equal c =
-    let e = c in
-    operator_given _ _ _ _ 1 clears _ (plain-on (goal.at.returns-then-equal c).Then-equal) e.unfit_end-e.result e.unfit_end-e.ensures (omega arith) _
-    (λ b z m rest. ap₂ Clears b z)
+    let g = plain-on c.requires.1 c.find_places-p.ensures c.word_of-word.ensures (sym c.equal.ensures ∙ c.if-equal.true) in
+    operator_given _ _ _ _ 1 clears _ g _ c.unfit_end-e.ensures (omega arith) _ (λ b z m rest. ap₂ Clears b z)
 
 pub returns-then-fixity-eq-NONE : goal.returns-then-fixity-eq-NONE
 unfolding declaration symbol_of token_of
 returns-then-fixity-eq-NONE c =
-    let n = c in
-    let h = worded (goal.at.returns-then-fixity-eq-NONE c).After-equal in
-    read_unfit _ _ _ _ (first h) 1 (omega arith) (word h) h.word_of-word.ensures 0 (omega arith) declaration-refuses
-    (λ ts. word-other _ ts (other_word (goal.at.returns-then-fixity-eq-NONE c).Else-equal) n.fixity_named-fixity.result n.fixity_named-fixity.ensures c.if-fixity-eq-NONE.true)
+    let o = sym c.equal.ensures ∙ c.if-equal.false in
+    read_unfit _ _ _ _ (first c.requires.1 c.find_places-p.ensures) 1 (omega arith) _ c.word_of-word.ensures 0 (omega arith)
+    declaration-refuses
+    (λ ts. word-other _ ts o _ c.fixity_named-fixity.ensures c.if-fixity-eq-NONE.true)
 
 pub word_of-side-requires : goal.word_of-side-requires
-word_of-side-requires c =
-    let f = found₂ (goal.at.word_of-side-requires c).Else-fixity-eq-NONE in
-    let p = second_part_lem _ _ f.find_places-p.ensures (first_within (start f)) in
-    search rules
+word_of-side-requires c = let p = second_part_lem _ _ c.find_places-p.ensures (first_within c.requires.1) in search rules
 
 pub associativity_named-associativity-requires : goal.associativity_named-associativity-requires
 associativity_named-associativity-requires c =
-    let k = c in
-    omega (arith, k.if-fixity-eq-NONE.false, k.fixity_named-fixity.ensures, fixity_bound (word (fixed (goal.at.associativity_named-associativity-requires c).Else-fixity-eq-NONE)))
+    omega (arith, c.if-fixity-eq-NONE.false, c.fixity_named-fixity.ensures, fixity_bound c.word_of-word.result.now)
 
 pub returns-then-associativity-eq-NO_SIDE : goal.returns-then-associativity-eq-NO_SIDE
 unfolding token_of
 returns-then-associativity-eq-NO_SIDE c =
-    let a = c in
-    let h = a in
-    read_unfit _ _ _ _ (fixity-on (goal.at.returns-then-associativity-eq-NO_SIDE c).Else-fixity-eq-NONE) 1 (omega arith) (side (goal.at.returns-then-associativity-eq-NO_SIDE c).After-word_of-side) h.word_of-side.ensures 1 refl (associativity_refuses _)
-    (λ ts. side_other _ _ ts a.associativity_named_lem.result a.associativity_named_lem.ensures c.if-associativity-eq-NO_SIDE.true)
+    let g =
+    fixity-on c.requires.1 c.find_places-p.ensures c.word_of-word.ensures (sym c.equal.ensures ∙ c.if-equal.false)
+    c.fixity_named-fixity.ensures c.if-fixity-eq-NONE.false
+    in
+    read_unfit _ _ _ _ g 1 (omega arith) _ c.word_of-side.ensures 1 refl (associativity_refuses _)
+    (λ ts. side_other _ _ ts _ c.associativity_named-associativity.ensures c.if-associativity-eq-NO_SIDE.true)
 
 pub precedence_of-level-requires : goal.precedence_of-level-requires
-precedence_of-level-requires c =
-    let f = found₃ (goal.at.precedence_of-level-requires c).Else-associativity-eq-NO_SIDE in
-    let p = third_part _ _ f.find_places-p.ensures (first_within (start f)) in
-    search rules
-
-pub overflow_add-result-then-level-eq0 : goal.overflow_add-result-then-level-eq0
-overflow_add-result-then-level-eq0 c = let p = (start (found₃ (goal.at.overflow_add-result-then-level-eq0 c).Else-associativity-eq-NO_SIDE)).requires.1 in search rules
+precedence_of-level-requires c = let p = third_part _ _ c.find_places-p.ensures (first_within c.requires.1) in search rules
 
 pub returns-then-level-eq0 : goal.returns-then-level-eq0
 unfolding token_of
 returns-then-level-eq0 c =
-    let p = c in
-    let d = p in
-    read_unfit _ _ _ _ (side-on (goal.at.returns-then-level-eq0 c).Else-associativity-eq-NO_SIDE) 2 (omega arith) (digits (goal.at.returns-then-level-eq0 c).Else-associativity-eq-NO_SIDE) refl 2 refl (precedence_refuses _ _)
-    (λ ts. digits_other _ _ (digits (goal.at.returns-then-level-eq0 c).Else-associativity-eq-NO_SIDE) ts p.precedence_of-level.result p.precedence_of-level.ensures c.if-level-eq0.true)
-
-pub overflow_add-from-4 : goal.overflow_add-from-4
-overflow_add-from-4 c = let p = (start (found₃ (levelled (goal.at.overflow_add-from-4 c).Else-level-eq0))).requires.1 in search rules
-
-pub unfit_end-e-requires-2 : goal.unfit_end-e-requires-2
-unfit_end-e-requires-2 c = let p = (start (found₃ (levelled (goal.at.unfit_end-e-requires-2 c).Else-level-eq0))).requires.1 in search rules
-
-pub overflow_add-from-5 : goal.overflow_add-from-5
-overflow_add-from-5 c = let p = (start (found₃ (levelled (goal.at.overflow_add-from-5 c).Else-level-eq0))).requires.1 in search rules
+    let g =
+    side-on c.requires.1 c.find_places-p.ensures c.word_of-word.ensures (sym c.equal.ensures ∙ c.if-equal.false)
+    c.fixity_named-fixity.ensures c.if-fixity-eq-NONE.false c.word_of-side.ensures c.associativity_named-associativity.ensures
+    c.if-associativity-eq-NO_SIDE.false
+    in
+    read_unfit _ _ _ _ g 2 (omega arith) _ refl 2 refl (precedence_refuses _ _)
+    (λ ts. digits_other _ _ _ ts _ c.precedence_of-level.ensures c.if-level-eq0.true)
 
 pub returns-then-e-from-2 : goal.returns-then-e-from-2
 returns-then-e-from-2 c =
-    let e = c in
-    operator_unfit _ _ _ _ 3 _ _ (level-on (goal.at.returns-then-e-from-2 c).Else-level-eq0) e.unfit_end-e-2.result e.unfit_end-e-2.ensures refl (omega arith)
+    let g =
+    level-on c.requires.1 c.find_places-p.ensures c.word_of-word.ensures (sym c.equal.ensures ∙ c.if-equal.false)
+    c.fixity_named-fixity.ensures c.if-fixity-eq-NONE.false c.word_of-side.ensures c.associativity_named-associativity.ensures
+    c.if-associativity-eq-NO_SIDE.false c.precedence_of-level.ensures c.if-level-eq0.false
+    in
+    operator_unfit _ _ _ _ 3 _ _ g _ c.unfit_end-e-2.ensures refl (omega arith)
 
 pub overflow_add-result-2 : goal.overflow_add-result-2
 overflow_add-result-2 c =
-    let l = c in
-    let d = levelled (goal.at.overflow_add-result-2 c).Else-level-eq0 in
-    let a = d in
     omega (
       arith,
-      l.precedence_of-level.ensures,
-      precedence_bound (digits d),
-      a.associativity_named_lem.ensures,
-      associativity_bound (fixity a) (side a),
+      c.precedence_of-level.ensures,
+      precedence_bound (digits c.requires.1 c.find_places-p.ensures),
+      c.associativity_named-associativity.ensures,
+      associativity_bound c.fixity_named-fixity.result c.word_of-side.result.now,
     )
 
 pub returns : goal.returns
 returns c =
-    let e = c in
-    let l = e in
-    let d = levelled (goal.at.returns c).Else-level-eq0 in
-    let k = (sided d) in
-    operator_given _ _ _ _ 3 _ _ (level-on (goal.at.returns c).Else-level-eq0) e.unfit_end-e-2.result e.unfit_end-e-2.ensures (omega arith) _
+    let g =
+    level-on c.requires.1 c.find_places-p.ensures c.word_of-word.ensures (sym c.equal.ensures ∙ c.if-equal.false)
+    c.fixity_named-fixity.ensures c.if-fixity-eq-NONE.false c.word_of-side.ensures c.associativity_named-associativity.ensures
+    c.if-associativity-eq-NO_SIDE.false c.precedence_of-level.ensures c.if-level-eq0.false
+    in
+    operator_given _ _ _ _ 3 _ _ g _ c.unfit_end-e-2.ensures (omega arith) _
     (λ b z m rest.
-    role_said
-    (word (fixed k))
-    (side (sided d))
-    (digits d)
-    (fixity k)
-    (associativity d)
-    l.precedence_of-level.result
-    k.fixity_named-fixity.ensures
-    k.if-fixity-eq-NONE.left
-    d.associativity_named_lem.ensures
-    d.if-associativity-eq-NO_SIDE.left
-    l.precedence_of-level.ensures
-    l.if-level-eq0.false
-    b
-    z)
+    role_said _ _ _ _ _ _ c.fixity_named-fixity.ensures c.if-fixity-eq-NONE.false c.associativity_named-associativity.ensures
+    c.if-associativity-eq-NO_SIDE.false c.precedence_of-level.ensures c.if-level-eq0.false b z)

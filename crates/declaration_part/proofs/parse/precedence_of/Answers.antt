@@ -1,6 +1,5 @@
--- The tests are those of `written_from`; no digits are no precedence. Assumes nothing.
+-- The tests are those of `written_from`; no digits are no precedence.
 use mathlib.Core.Path.{sym, ap, ◌∙◌}
-use borrow.Author.Rules.{rules}
 use Rattle.declaration_part.specs.Parsing.{precedence_code}
 use Rattle.declaration_part.proofs.Precedences.{precedence_empty}
 use Rattle.declaration_part.proofs.Parts.{stands_end, stands_here, stands-other, from_here, from_none}

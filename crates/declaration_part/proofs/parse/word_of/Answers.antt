@@ -1,6 +1,5 @@
--- The tests are those of `written_from`; no bytes of the text are none. Assumes nothing.
+-- The tests are those of `written_from`; no bytes of the text are none.
 use mathlib.Core.Path.{sym, ◌∙◌}
-use borrow.Author.Rules.{rules}
 use Rattle.declaration_part.proofs.Parts.{stands_end, stands_here, stands-other, from_here, from_none}
 use Rattle.declaration_part.proofs.parse.word_of.Goals as goal
 

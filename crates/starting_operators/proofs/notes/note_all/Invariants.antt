@@ -1,12 +1,6 @@
 -- The tokens before number `i` are noted, and the rest of the row is as it was; each turn notes one token more.
-use mathlib.Core.Path.{◌≡◌}
-use mathlib.Core.Logic.{⊎_elim}
-use Prim.Native.Nat.{suc, ◌-◌, ◌≤◌, ◌<◌}
-use native.Mathlib.Numerals.{add-one}
-use native.Mathlib.Omega.{arith}
-use borrow.Author.Rules.{rules}
+use Prim.Native.Nat.{◌-◌, ◌≤◌}
 use Rattle.starting_operators.specs.Starting.{NotesAll}
-use Rattle.starting_operators.proofs.NotedTokens.{none_noted, next_noted, passed_over, notable_kept}
 use Rattle.starting_operators.proofs.notes.note_all.Given as goal
 
 abbrev pub invariant-loop-i : goal.invariant-loop-i

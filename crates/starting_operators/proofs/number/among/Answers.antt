@@ -1,12 +1,11 @@
 -- No operator before the one that is looked at has the name: those before the range, and behind it, have names of other lengths.
 use mathlib.Core.Path.{◌≡◌, sym, ap, ◌∙◌}
-use Prim.Native.Nat.{◌-◌, ◌<◌}
+use Prim.Native.Nat.{◌<◌}
 use native.Mathlib.Omega.{arith}
-use borrow.Author.Rules.{rules}
 use Rattle.grammar.specs.Bytes.{same}
 use Rattle.starting_operators.specs.Starting.{start_name, start_count}
 use Rattle.starting_operators.proofs.Numbers.{computed_count, first_number}
-use Rattle.starting_operators.proofs.NameSizes.{name_sizes, name_within, name_part, NoneBefore, none_before, none_among, none_yet}
+use Rattle.starting_operators.proofs.NameSizes.{name_sizes, name_within, name_part, none_before, none_among, none_yet}
 use Rattle.starting_operators.proofs.number.among.Goals as goal
 use Rattle.starting_operators.proofs.number.among.Goals.{After-equal, In-loop-k}
 
@@ -22,20 +21,18 @@ slice_bounds-equal-end c =
     let o = c.operator-o.ensures in
     omega (arith, name_within o, o.sized, name_sizes _ (looked (goal.at.slice_bounds-equal-end c).In-loop-k))
 
-compared : (c : After-equal) → let d = c in
-    c.equal.result ≡ same d.args.name.now (start_name d.loop-k.k)
+compared : (c : After-equal) → c.equal.result ≡ same c.args.name.now (start_name c.loop-k.k)
 compared c = c.equal.ensures ∙ ap (same _) (name_part c.operator-o.ensures)
 
 pub returns-then-equal : goal.returns-then-equal
 returns-then-equal c =
-    let d = c in
     let h = looked (goal.at.returns-then-equal c).In-loop-k in
-    sym (first_number _ _ h (λ j l. d.loop-k.invariant j l (omega arith)) (sym (compared (goal.at.returns-then-equal c).After-equal) ∙ c.if-equal.true))
+    let e = sym (compared (goal.at.returns-then-equal c).After-equal) ∙ c.if-equal.true in
+    sym (first_number _ _ h (λ j l. c.loop-k.invariant j l (omega arith)) e)
 
 pub loop-k-preserved : goal.loop-k-preserved
 loop-k-preserved c =
-    let d = c in
-    none_yet _ _ d.loop-k.invariant (sym (compared (goal.at.loop-k-preserved c).After-equal) ∙ c.if-equal.false)
+    none_yet _ _ c.loop-k.invariant (sym (compared (goal.at.loop-k-preserved c).After-equal) ∙ c.if-equal.false)
 
 pub returns : goal.returns
 unfolding computed_count

@@ -1,6 +1,5 @@
 -- The numbers of its roles are those of roles, and none is postfix.
 use mathlib.Core.Path.{◌∙◌}
-use borrow.Author.Rules.{rules}
 use Rattle.starting_operators.proofs.Roles.{none_coded, start_coded, start-arrival}
 use Rattle.starting_operators.proofs.number.arrival.Goals as goal
 

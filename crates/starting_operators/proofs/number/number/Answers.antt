@@ -1,7 +1,6 @@
 -- The numbers that go with each length are computed; a name of another length is that of no operator.
 use mathlib.Core.Path.{refl, sym}
 use native.Mathlib.Omega.{arith}
-use borrow.Author.Rules.{rules}
 use Rattle.starting_operators.proofs.Numbers.{every_number, computed_count}
 use Rattle.starting_operators.proofs.NameSizes.{size_within, ranges, other_sizes}
 use Rattle.starting_operators.proofs.number.number.Goals as goal

@@ -1,12 +1,10 @@
 -- Each line is computed: the name, its length, and the numbers of the roles. The last line is for a number that no operator has.
 use mathlib.Core.Path.{◌≡◌, refl, sym, ap, ◌∙◌}
-use Prim.Native.Nat.{ℕ, zero, suc, ◌≤◌}
+use Prim.Native.Nat.{ℕ, ◌≤◌}
 use native.Mathlib.Omega.{arith}
 use lib.ListN.{length, take}
-use borrow.Author.Rules.{rules}
 use Rattle.grammar.specs.Bytes.{Bytes}
 use Rattle.grammar.specs.Operator.{Prefix, Infix}
-use Rattle.grammar.proofs.Logic.{below}
 use Rattle.rows.specs.Codes.{side_code, role_code}
 use Rattle.starting_operators.specs.Starting.{name_of, roles_at, start_name, start_roles, start_count, IsOperator}
 use Rattle.starting_operators.specs.declared.number.StartingOperator.{StartingOperator}
@@ -57,15 +55,7 @@ pub returns-in-7 : goal.returns-in-7
 unfolding computed_count start_name name_of start_roles roles_at side_code role_code
 returns-in-7 c = line c.in-7.is c.of-in-7.ensures refl refl refl refl
 
--- None of the lines before: the number is no less than they are many.
-abbrev NoneBelow : ℕ → ℕ → Type 0
-NoneBelow zero n = Unit {0}
-NoneBelow (suc k) n = NoneBelow k n × (n ≡ k → ⊥)
-
-none_below : (k n : ℕ) → NoneBelow k n → k ≤ n
-none_below zero n d = omega arith
-none_below (suc k) n (d, e) = let h = none_below k n d in below k n (λ l. l) (λ l. absurd (e (omega arith)))
-
+-- The last line: a number that none of the lines before has is no less than there are operators.
 none_made : {n : ℕ} {o : StartingOperator} (w : Bytes) → start_count ≤ n → Made w 0 0 0 o → IsOperator n o
 none_made {n} w h (a, b, c, d) =
     record {
@@ -77,4 +67,4 @@ none_made {n} w h (a, b, c, d) =
 
 pub returns-in_default : goal.returns-in_default
 unfolding computed_count
-returns-in_default c = none_made _ (none_below start_count _ c.in-0.rest) c.of-in_default.ensures
+returns-in_default c = none_made _ (omega arith) c.of-in_default.ensures

@@ -1,7 +1,6 @@
 -- The number of the name tells.
 use mathlib.Core.Path.{ap, ◌∙◌}
 use lib.Dec.{ltb}
-use borrow.Author.Rules.{rules}
 use Rattle.starting_operators.proofs.ReservedNumbers.{reserved_count, reserved_below}
 use Rattle.starting_operators.proofs.reserved.is_reserved.Goals as goal
 
