@@ -6,7 +6,7 @@
  *     rule_write_name     writes the characters of the name at a node of such a table
  *     rule_locate         says where a text that is refused with RULE_NO_TREE is lost
  *
- * Link with target/staticlib/librule_reader.a (x86-64 Linux), which `rt staticlib rule_reader` writes. It needs memcpy and memset
+ * Link with target/staticlib/librule_reader.a (x86-64 Linux), which `c/archive` writes. It needs memcpy and memset
  * and nothing else. c/rule_reader.pc is for pkg-config.
  *
  * A blank rule is a text that is empty or all blanks (bytes 9, 10, 13 and 32), of at most 16,384 bytes. It means nobody. rule_read

@@ -1,4 +1,4 @@
-//! The proved reader, by the archive that `rt staticlib rule_reader` writes.
+//! The proved reader, by the archive that `c/archive` writes.
 
 use rule_bench::reader::Answer;
 

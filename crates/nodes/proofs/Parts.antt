@@ -118,7 +118,8 @@ module _ (M : Rows) (i : ℕ) where
     last_atom e n l m f = rw (le-ltb 3 (kind K i) is_atom_lem, eq-eqb (right O i) 0 e, eq-eqb l 0 f, last_words)
 
     pub last_postfix :
-        right O i ≡ 0 → (n l m : ℕ) → (l ≡ 0 → ⊥) → last_words M i n l m ≡ token_words postfix_kind (n + m - 1) 0 K i (precedence_of (last_role M i l))
+        right O i ≡ 0 → (n l m : ℕ) → (l ≡ 0 → ⊥)
+        → last_words M i n l m ≡ token_words postfix_kind (n + m - 1) 0 K i (precedence_of (last_role M i l))
     unfolding last_words
     last_postfix e n l m f = rw (le-ltb 3 (kind K i) is_atom_lem, eq-eqb (right O i) 0 e, ne_eqb l 0 f, last_words)
 

@@ -368,7 +368,8 @@ module _ (places : ℕ → ℕ) (M : Rows) where
 
     role_here : IsRole (last_role M place (count l)) × (precedence_of (last_role M place (count l)) ≡ precedence_over T l m r)
     role_here =
-        beside_operands s.roled.0 s.roled.1 l r (count l) (right O place) (count-present l) (ap (λ x. eqb x 0) s.rooted.1 ∙ mark-present (suc place) r)
+        beside_operands s.roled.0 s.roled.1 l r (count l) (right O place) (count-present l)
+        (ap (λ x. eqb x 0) s.rooted.1 ∙ mark-present (suc place) r)
 
     -- An operand stands in its part, or it is missing.
     operand_stands :
@@ -452,7 +453,8 @@ module _ (places : ℕ → ℕ) (M : Rows) where
           first = rw (first_left K O place is_atom_lem from)
               (operand_stands l from (left O place) from place k.4 s.roled.2 o.2 o.0 refl refl (omega arith) (omega arith) (omega arith));
           second = rw (second_right K O place is_atom_lem to)
-              (operand_stands r (suc place) (right O place) (place + 1) to k.5 s.roled.3 o.3 o.1 (add-one place) (omega arith) (omega arith) (omega arith) (omega arith));
+              (operand_stands r (suc place) (right O place) (place + 1) to k.5 s.roled.3 o.3 o.1 (add-one place)
+              (omega arith) (omega arith) (omega arith) (omega arith));
           nodes = refl;
           text = λ n. rw (node_last n, append_assoc);
         }

@@ -40,7 +40,8 @@ use Rattle.nodes.proofs.Shapes.{
 -- and nothing is written.
 pub record FirstBuilt (M : Rows) (from at to : ℕ) (N : List ℕ) (base : ℕ) (N₁ : List ℕ) (l : ℕ) : Type 0 where
   pub counted : (places : ℕ → ℕ) (T : Table) (t : Tree) → Stands places T M from at to t → l ≡ count (first_of t)
-  pub written : (places : ℕ → ℕ) (T : Table) (t : Tree) → Stands places T M from at to t → N₁ ≡ over (words places (first_table T t) (first_of t) (first_from from t) base) N
+  pub written : (places : ℕ → ℕ) (T : Table) (t : Tree) → Stands places T M from at to t
+      → N₁ ≡ over (words places (first_table T t) (first_of t) (first_from from t) base) N
 
 -- The same of both children: all nodes but the last.
 pub record ChildrenBuilt (M : Rows) (from at to : ℕ) (N : List ℕ) (base : ℕ) (N₂ : List ℕ) (m : ℕ) : Type 0 where

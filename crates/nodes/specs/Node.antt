@@ -3,7 +3,7 @@ use Rattle.std.specs.Prelude.{◌≡◌, true, false, List, ℕ, ◌+◌, ◌-�
 use Rattle.std.proofs.lemmas.List.Edits.{sets}
 use Rattle.grammar.specs.SpanTree.{root_precedence}
 use Rattle.grammar.specs.Nodes.{node_words, name_kind, number_kind, prefix_kind, infix_kind, block_kind, words_per_node}
-use Rattle.rows.specs.Fields.{kind, start, size, left, right}
+use Rattle.rows.specs.Fields.{kind, start, size}
 use Rattle.rows.specs.Codes.{role_of}
 
 -- The precedence of the role with the number `c`.

@@ -1,3 +1,5 @@
 // The node table of a text whose spans have trees.
+#![tactic(auto)]
+
 pub mod build;
 pub mod node;

@@ -5,7 +5,8 @@ ghost use Rattle.grammar.specs.Nodes.{node_words, words_per_node, infix_kind, br
 ghost use Rattle.rows.specs.Fields.{Within, start};
 ghost use Rattle.rows.specs.Codes.{IsRole};
 ghost use Rattle.rows.specs.InUse.{role_beside};
-ghost use Rattle.nodes.specs.Node.{precedence_of, token_words, atom_words, block_words, prefix_or_infix_words, HasNode, IsWord, EndsInChild, Appended};
+ghost use Rattle.nodes.specs.Node.{precedence_of, token_words, atom_words, block_words, prefix_or_infix_words, HasNode, IsWord};
+ghost use Rattle.nodes.specs.Node.{EndsInChild, Appended};
 
 use rows::{in_use, kinds, role, tokens as row};
 

@@ -1,4 +1,4 @@
-// The services for C and Rust programs: `rt staticlib rule_reader` writes them into one archive.
+// The services for C and Rust programs: `c/archive` writes them into one archive.
 ghost use Rattle.reader.specs.Answered.{Reads, Canonicalizes, Locates, WritesName};
 
 use reader::Answer;

@@ -2,7 +2,6 @@
 use mathlib.Core.Path.{sym, ◌∙◌}
 use Prim.Native.Nat.{◌≤◌}
 use native.Mathlib.Omega.{arith}
-use borrow.Author.Rules.{rules}
 use Rattle.rows.specs.Fields.{left, Within}
 use Rattle.nodes.proofs.Parts.{operand_none, operand_some, first_span, first_left}
 use Rattle.nodes.proofs.build.first.Goals as goal
@@ -25,8 +24,7 @@ closer-requires c = (opened (goal.at.closer-requires c).After-opener-o).0
 
 pub returns-then-kind-gt-QUOTED : goal.returns-then-kind-gt-QUOTED
 returns-then-kind-gt-QUOTED c =
-    let p = c in
-    rw (c.closer.ensures, c.inside.ensures, p.opener-o.ensures) (sym (first_span _ _ _ (omega arith) _))
+    rw (c.closer.ensures, c.inside.ensures, c.opener-o.ensures) (sym (first_span _ _ _ (omega arith) _))
 
 pub returns-then-left-eq0 : goal.returns-then-left-eq0
 returns-then-left-eq0 c = sym (first_left _ _ _ (omega arith) _ ∙ operand_none _ _ _ (omega arith))

@@ -1,7 +1,6 @@
 -- The test settles what `opener_of` says.
 use mathlib.Core.Path.{sym, ◌∙◌}
 use native.Mathlib.Omega.{arith}
-use borrow.Author.Rules.{rules}
 use Rattle.nodes.proofs.Parts.{opener_bracket, opener_block}
 use Rattle.nodes.proofs.build.opener.Goals as goal
 

@@ -3,16 +3,15 @@ use mathlib.Core.Path.{refl}
 use Prim.Native.Nat.{◌+◌, ◌*◌}
 use native.Mathlib.Omega.{arith}
 use Rattle.nodes.proofs.Nodes.{put_words}
-use borrow.Author.Rules.{rules}
 use Rattle.nodes.proofs.node.block.Goals as goal
 
 pub overflow_add-end : goal.overflow_add-end
-overflow_add-end c = omega (arith, c.shared_slice_known-1.given (c.args.c * 4 + 1))
+overflow_add-end c = omega (arith, c.type_inv.tokens (c.args.c * 4 + 1))
 
 pub put-requires : goal.put-requires
 put-requires c =
     let a = c.args in
-    let k = c.shared_slice_known-1.given in
+    let k = c.type_inv.tokens in
     omega (arith, k (a.i * 4 + 1), k (a.c * 4 + 1))
 
 pub returns : goal.returns

@@ -3,7 +3,6 @@ use mathlib.Core.Path.{◌≡◌}
 use native.Mathlib.Omega.{arith}
 use Rattle.rows.specs.Fields.{kind}
 use Rattle.nodes.proofs.Nodes.{atom_appended, atom_number, atom_name}
-use borrow.Author.Rules.{rules}
 use Rattle.nodes.proofs.node.leaf.Goals as goal
 
 pub returns-then-kind-eq-NUMBER : goal.returns-then-kind-eq-NUMBER

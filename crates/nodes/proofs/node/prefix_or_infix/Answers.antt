@@ -2,7 +2,6 @@
 use Prim.Native.Nat.{◌+◌}
 use mathlib.Core.Path.{◌≡◌}
 use native.Mathlib.Omega.{arith}
-use borrow.Author.Rules.{rules}
 use Rattle.nodes.proofs.Parts.{prefix-words, infix_words}
 use Rattle.nodes.proofs.node.prefix_or_infix.Goals as goal
 
@@ -13,11 +12,10 @@ unary-requires c =
 
 pub returns-then-l-eq0 : goal.returns-then-l-eq0
 returns-then-l-eq0 c =
-    let t = c in
-    let a = t.args in
+    let a = c.args in
     let e : a.l + a.r ≡ a.r = omega arith in
-    rw (prefix-words a.base a.l (a.l + a.r) a.tokens.now a.i _ t.if-l-eq0.true, e)
-    (rw t.role_beside-role.ensures at c.unary.ensures)
+    rw (prefix-words a.base a.l (a.l + a.r) a.tokens.now a.i _ c.if-l-eq0.true, e)
+    (rw c.role_beside-role.ensures at c.unary.ensures)
 
 pub infix-requires : goal.infix-requires
 infix-requires c =
@@ -26,5 +24,4 @@ infix-requires c =
 
 pub returns : goal.returns
 returns c =
-    let t = c in
-    rw (infix_words _ _ _ _ _ _ t.if-l-eq0.false) (rw t.role_beside-role.ensures at c.infix.ensures)
+    rw (infix_words _ _ _ _ _ _ c.if-l-eq0.false) (rw c.role_beside-role.ensures at c.infix.ensures)

@@ -3,13 +3,12 @@ use mathlib.Core.Path.{refl}
 use Prim.Native.Nat.{◌+◌, ◌*◌}
 use native.Mathlib.Omega.{arith}
 use Rattle.nodes.proofs.Nodes.{put_words}
-use borrow.Author.Rules.{rules}
 use Rattle.nodes.proofs.node.put_token.Goals as goal
 
 pub put-requires : goal.put-requires
 put-requires c =
     let i = c.args.i in
-    let k = c.shared_slice_known-1.given in
+    let k = c.type_inv.tokens in
     omega (arith, k (i * 4 + 1), k (i * 4 + 2))
 
 pub returns : goal.returns

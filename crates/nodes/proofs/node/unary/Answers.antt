@@ -2,7 +2,6 @@
 use mathlib.Core.Path.{refl}
 use native.Mathlib.Omega.{arith}
 use Rattle.nodes.proofs.Nodes.{put_words}
-use borrow.Author.Rules.{rules}
 use Rattle.nodes.proofs.node.unary.Goals as goal
 
 pub returns : goal.returns
