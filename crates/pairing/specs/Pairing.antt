@@ -4,7 +4,6 @@ use Rattle.grammar.specs.Open.{Open, in_bracket, in_declarations, in_body}
 use Rattle.grammar.specs.Token.{Token}
 use Rattle.grammar.specs.Outcome.{Outcome, refused, passed}
 use Rattle.grammar.specs.Nesting.{Move, stays, broken, enters, becomes, leaves, nesting}
-use Rattle.grammar.specs.Nesting as Nesting
 use Rattle.grammar.specs.Coded.{token_of}
 use Rattle.rows.specs.Fields.{field, kind}
 use Rattle.rows.specs.Tokens as Tokens

@@ -1,4 +1,6 @@
 // Brackets and blocks: document 01's refusals 6 and 7, and which token closes which.
+#![tactic(auto)]
+
 ghost use Rattle.std.specs.Prelude.{◌≡◌, List, [], ◌<◌};
 ghost use Rattle.grammar.specs.Open.{Open};
 ghost use Rattle.grammar.specs.Nesting.{move};

@@ -16,14 +16,14 @@ use Rattle.grammar.specs.Scan as Scan
 use Rattle.grammar.specs.Coded.{kind_of}
 use Rattle.grammar.proofs.Logic.{below, impossible}
 use Rattle.grammar.proofs.Taken.{Begins, Told, front_told}
-use Rattle.rows.specs.Fields.{field, kind, size}
+use Rattle.rows.specs.Fields.{field, kind}
 use Rattle.rows.specs.Tokens.{kind_at, place_at, size_at}
 use Rattle.byte_strings.proofs.Suffixes.{drop_next, run_stop}
 use Rattle.scanner.specs.declared.fronts.Front.{Front}
 use Rattle.scanner.specs.declared.fronts.Front.TheVariants as Found
 use Rattle.scanner.specs.declared.scan.Scanned.TheVariants as Answer
 use Rattle.scanner.specs.Scanning.{Fronts, Scannable, Storable, TokenStored, Stores, Scans}
-use Rattle.scanner.proofs.ScanSteps.{at_place, scan-blank, scan_wrong, scan_full, scan_token, scan_none, before_all, before_none, before_one}
+use Rattle.scanner.proofs.ScanSteps.{at_place, scan-blank, scan_wrong, scan_full, scan_token, scan_none, before_all, before_one}
 
 -- A field of the first entries of a row is that of the tokens found.
 abbrev pub Held : ℕ → (Placed → ℕ) → List ℕ → List Placed → Type 0
@@ -44,7 +44,10 @@ held_next k f K K' ps p kept new held j h = below j (length ps) before here
         ∙ ap (λ xs. get_or xs j 0) (sym both)
 
     last : get_or (map f (ps ++ p ∷ [])) (length ps) 0 ≡ f p
-    last = ap (λ xs. get_or xs (length ps) 0) both ∙ ap (λ n. get_or (map f ps ++ f p ∷ []) n 0) (sym (length-map ps f)) ∙ get_or-append_seam (map f ps) (f p) [] 0
+    last =
+        ap (λ xs. get_or xs (length ps) 0) both
+        ∙ ap (λ n. get_or (map f ps ++ f p ∷ []) n 0) (sym (length-map ps f))
+        ∙ get_or-append_seam (map f ps) (f p) [] 0
 
     here : length ps ≤ j → field 4 k K' j ≡ get_or (map f (ps ++ p ∷ [])) j 0
     here l = let e : j ≡ length ps = omega (arith, length-append ps (p ∷ [])) in rw e (new ∙ sym last)
@@ -88,19 +91,6 @@ pub record ScannedTo (text K : List ℕ) (n at : ℕ) (nested : Bool) : Type 0 w
   pub starts : Held 1 place_at K found
   pub sizes : Held 2 size_at K found
   pub plain : nested ≡ false → (j : ℕ) → j < n → kind K j ≤ 3
-
-pub begun : (text K : List ℕ) → ScannedTo text K 0 0 false
-begun text K = record {
-  found = [];
-  many = refl;
-  ahead = omega arith;
-  room = omega arith;
-  whole = before_none (scan most_tokens 0 text);
-  kinds = λ j h. absurd (omega arith);
-  starts = λ j h. absurd (omega arith);
-  sizes = λ j h. absurd (omega arith);
-  plain = λ e j h. absurd (omega arith);
-}
 
 module _ {text K : List ℕ} {n at : ℕ} {nested : Bool} (v : ScannedTo text K n at nested) where
   pub at_end : length text ≤ at → Scans text K (scan most_tokens 0 text) (Answer.Tokens n nested)

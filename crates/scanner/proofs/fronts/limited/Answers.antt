@@ -1,4 +1,4 @@
--- The test is that of `at_most`, for any token of the kind. Assumes nothing.
+-- The test is that of `at_most`, for any token of the kind.
 use mathlib.Core.Path.{refl, sym, ap}
 use Rattle.scanner.specs.declared.fronts.Front.TheVariants.{Token}
 use Rattle.scanner.proofs.TokenAtFront.{short_enough, too_long}

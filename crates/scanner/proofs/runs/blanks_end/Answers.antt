@@ -1,5 +1,4 @@
--- The blanks are the run of bytes of their class. Assumes nothing.
-use borrow.Author.Rules.{rules}
+-- The blanks are the run of bytes of their class.
 use Rattle.grammar.specs.Token.{is_blank_byte}
 use Rattle.scanner.specs.Classes.{in_class}
 use Rattle.scanner.proofs.runs.blanks_end.Goals as goal

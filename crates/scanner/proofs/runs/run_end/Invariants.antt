@@ -1,13 +1,9 @@
--- The loop's invariant: what has been passed and the run from `i` on are the run from `at` on. Assumes nothing.
+-- The loop's invariant: what has been passed and the run from `i` on are the run from `at` on.
 use mathlib.Core.Path.{◌≡◌}
 use Prim.Native.Nat.{◌+◌, ◌-◌}
-use native.Mathlib.Omega.{arith}
-use borrow.Author.Rules.{rules}
 use lib.ListN.{length, drop}
 use Rattle.grammar.specs.Scan.{run}
-use Rattle.byte_strings.proofs.Suffixes.{run_step, run_stop, run_end}
 use Rattle.scanner.specs.Classes.{in_class}
-use Rattle.scanner.proofs.TestedClasses.{in_class_lem, not_in_class}
 use Rattle.scanner.proofs.runs.run_end.Given as goal
 
 abbrev pub invariant-loop-i : goal.invariant-loop-i
