@@ -18,7 +18,17 @@ use Rattle.grammar.proofs.Logic.{below}
 use Rattle.rows.specs.Fields.{kind, closer, size, arrival}
 use Rattle.rows.proofs.Fields.{within}
 use Rattle.canonical_text.specs.Brackets.{stays, TreeAt, kept_pair, kept_beside, size_if, Sized}
-use Rattle.canonical_text.proofs.TreeRows.{bracket_length, block_length, node-length, inside_at, body_at, left_at, right_at, tree_kept, operand_arrives}
+use Rattle.canonical_text.proofs.TreeRows.{
+  bracket_length,
+  block_length,
+  node-length,
+  inside_at,
+  body_at,
+  left_at,
+  right_at,
+  tree_kept,
+  operand_arrives,
+}
 use Rattle.canonical_text.proofs.Pairs.{pair_long, pair_fields, pair_others, pair_opener, pair_closer}
 
 abbrev pub Going : ℕ → List ℕ → Table → ℕ → Bool → Tree → Type 0
@@ -88,7 +98,8 @@ module _ (at at' : ℕ) (K K' : List ℕ) where
       let n = block_length ds t in (
         λ x y. g.0 (before_by at at' i (p i (omega arith) (omega (arith, n))) x)
             (omega (arith, behind_by at at' at' (p at' (omega arith) (omega (arith, n))) (omega arith))),
-        elsewhere (declare_all T ds) (suc c) false t (λ j x y. p j (omega arith) (omega (arith, n))) (λ j x y. s j (omega arith) (omega (arith, n))) g.1,
+        elsewhere (declare_all T ds) (suc c) false t (λ j x y. p j (omega arith) (omega (arith, n)))
+            (λ j x y. s j (omega arith) (omega (arith, n))) g.1,
       )
   elsewhere T i b (node l m r) p s g =
       let a = i + length (flat l) in
@@ -107,12 +118,14 @@ module _ {K R O : List ℕ} {n : ℕ} {T : Table} (s : Position) (o : Option Rol
   pair_elsewhere (leaf a) h j d = refl
   pair_elsewhere {i} (bracket t) h j d =
       let n = bracket_length t in
-      pair_others K i (stays T s o (bracket t)) j (λ e. d (omega arith) (omega (arith, n))) (λ e. d (omega (arith, h.stands.1)) (omega (arith, h.stands.1, n)))
+      pair_others K i (stays T s o (bracket t)) j (λ e. d (omega arith) (omega (arith, n)))
+      (λ e. d (omega (arith, h.stands.1)) (omega (arith, h.stands.1, n)))
   pair_elsewhere (block ds t) h j d = refl
   pair_elsewhere (node l m r) h j d = refl
 
   pub pair_brackets :
-      {i : ℕ} (t : Tree) → TreeAt K R O n T i t → (j : ℕ) → (kind K j ≡ 4 → ⊥) → (kind K j ≡ 5 → ⊥) → size (kept_pair (stays T s o t) K i) j ≡ size K j
+      {i : ℕ} (t : Tree) → TreeAt K R O n T i t → (j : ℕ) → (kind K j ≡ 4 → ⊥) → (kind K j ≡ 5 → ⊥)
+      → size (kept_pair (stays T s o t) K i) j ≡ size K j
   unfolding stays kept_pair
   pair_brackets nothing h j d e = refl
   pair_brackets (leaf a) h j d e = refl
@@ -203,7 +216,8 @@ module _ (at : ℕ) (K : List ℕ) where
     abbrev o : Option Role
     o = role_over T (span_tree l) m (span_tree r)
 
-    in_left : Going at K T i b (node l m r) → at < a → (at' : ℕ) (K' : List ℕ) → After at K T i (ltb a at && stays T on_left o l) l at' K' → After at K T i b (node l m r) at' K'
+    in_left : Going at K T i b (node l m r) → at < a → (at' : ℕ) (K' : List ℕ) → After at K T i (ltb a at && stays T on_left o l) l at' K'
+        → After at K T i b (node l m r) at' K'
     in_left g h at' K' f =
         let k = node-length l m r in
         let e : ltb a at ≡ ltb a at' = ahead at at' a a (omega arith) f.upto (omega arith) in
@@ -239,7 +253,8 @@ module _ (at : ℕ) (K : List ℕ) where
 
   -- A turn at the operator itself.
   at_operator :
-      {R O : List ℕ} {n : ℕ} (T : Table) (i : ℕ) (b : Bool) (l : Tree) (m : Bytes) (r : Tree) → TreeAt K R O n T i (node l m r) → at ≡ i + length (flat l)
+      {R O : List ℕ} {n : ℕ} (T : Table) (i : ℕ) (b : Bool) (l : Tree) (m : Bytes) (r : Tree) → TreeAt K R O n T i (node l m r)
+      → at ≡ i + length (flat l)
       → Going at K T i b (node l m r) → (K' : List ℕ) → K' ≡ kept_beside K T i l m r → After at K T i b (node l m r) (suc at) K'
   unfolding kept_beside
   at_operator {R} {O} {n} T i b l m r h e g K' k =
@@ -248,7 +263,8 @@ module _ (at : ℕ) (K : List ℕ) where
       let K₁ = kept_pair (stays T on_left o l) K i in
       let K₂ = kept_pair (stays T on_right o r) K₁ c in
       let h₁ : TreeAt K₁ R O n T c r =
-      tree_kept K K₁ R (λ j. pair_fields K i _ 0 j (omega arith) (λ z. omega arith)) (λ j. pair_fields K i _ 3 j (omega arith) (λ z. omega arith)) (pair_long K i _) (right_at h) in
+      tree_kept K K₁ R (λ j. pair_fields K i _ 0 j (omega arith) (λ z. omega arith)) (λ j. pair_fields K i _ 3 j (omega arith) (λ z. omega arith))
+      (pair_long K i _) (right_at h) in
       let q = node-length l m r in
       let f = rw (le-ltb (i + length (flat l)) at (omega arith)) at g in
       rw k (record {
@@ -288,7 +304,8 @@ unfolding flat
 turn at nothing b h g p q = absurd (omega arith)
 turn {K} {R} at (leaf x) {T} {i} b h g p q =
     let e : at ≡ i = omega arith in
-    plain (λ k. omega (arith, ap (kind K) e, h.stands.0)) (λ k. ap (arrival R) e ∙ operand_arrives h) (passes at K (suc at) (omega arith) (omega arith) tt)
+    plain (λ k. omega (arith, ap (kind K) e, h.stands.0)) (λ k. ap (arrival R) e ∙ operand_arrives h)
+    (passes at K (suc at) (omega arith) (omega arith) tt)
 turn {K} at (bracket t) {T} {i} b h g p q =
     let c = suc (i + length (flat t)) in
     let l = bracket_length t in

@@ -9,8 +9,7 @@ use Rattle.grammar.specs.Bytes.{Bytes}
 use Rattle.grammar.specs.Operator.{Table}
 use Rattle.grammar.specs.SpanTree.{on_left, on_right, role_over}
 use Rattle.grammar.specs.Tree.{Tree, node, flat, span_tree}
-use Rattle.rows.specs.Fields.{field, kind, closer, size, arrival, Within}
-use Rattle.rows.proofs.Fields.{within}
+use Rattle.rows.specs.Fields.{field, kind, closer, size, arrival}
 use Rattle.canonical_text.specs.Brackets.{stays, TreeAt, OperatorAt, kept_pair, kept_beside, Keepable, KeptRow}
 use Rattle.canonical_text.proofs.TreeRows.{left_at, right_at, tree_kept, operator_arrives}
 use Rattle.canonical_text.proofs.Pairs.{pair_long, pair_fields, pair_small}
@@ -61,12 +60,6 @@ module _ {K R O : List ℕ} {n : ℕ} {T : Table} {t : Tree} (h : Keepable K R O
     keeping_tree =
         tree_kept K K' R (λ j. v.fields 0 j (omega arith) (λ e. omega arith)) (λ j. v.fields 3 j (omega arith) (λ e. omega arith)) v.long h.tree
 
-    pub in_tokens_lem : at < n → Within 4 K' at
-    in_tokens_lem l = within 4 n K' at keeping_tree.rows.0 l
-
-    pub in_roles : at < n → Within 4 R at
-    in_roles l = within 4 n R at h.tree.rows.1 l
-
     -- The row after a turn.
     abbrev Next : ℕ → List ℕ → Type 0
     Next at' K'' = (at < at') × KeptTo K T t n at' K''
@@ -77,7 +70,8 @@ module _ {K R O : List ℕ} {n : ℕ} {T : Table} {t : Tree} (h : Keepable K R O
       record { upto = omega (arith, a.upto, h.whole); long = v.long; fields = v.fields; others = v.others; small = v.small; going = a.going },
     )
 
-    beside_row : {U : Table} {j : ℕ} {l : Tree} {m : Bytes} {r : Tree} {at' : ℕ} → TreeAt K' R O n U j (node l m r) → (K'' : List ℕ) → K'' ≡ kept_beside K' U j l m r
+    beside_row : {U : Table} {j : ℕ} {l : Tree} {m : Bytes} {r : Tree} {at' : ℕ} → TreeAt K' R O n U j (node l m r) → (K'' : List ℕ)
+        → K'' ≡ kept_beside K' U j l m r
         → After at K' T 0 false t at' K'' → Next at' K''
     unfolding kept_beside
     beside_row {U} {j} {l} {m} {r} p K'' e a =
@@ -86,7 +80,8 @@ module _ {K R O : List ℕ} {n : ℕ} {T : Table} {t : Tree} (h : Keepable K R O
         let K₁ = kept_pair (stays U on_left o l) K' j in
         let kept : (k i : ℕ) → k < 4 → (k ≡ 2 → ⊥) → field 4 k K₁ i ≡ field 4 k K' i = λ k i x d. pair_fields K' j _ k i x d in
         let q : TreeAt K₁ R O n U c r =
-        tree_kept K' K₁ R (λ i. kept 0 i (omega arith) (λ z. omega arith)) (λ i. kept 3 i (omega arith) (λ z. omega arith)) (pair_long K' j _) (right_at p) in
+        tree_kept K' K₁ R (λ i. kept 0 i (omega arith) (λ z. omega arith)) (λ i. kept 3 i (omega arith) (λ z. omega arith)) (pair_long K' j _)
+        (right_at p) in
         let kinds : (i : ℕ) → kind K' i ≡ kind K i = λ i. v.fields 0 i (omega arith) (λ z. omega arith) in
         let kinds₁ : (i : ℕ) → kind K₁ i ≡ kind K i = λ i. kept 0 i (omega arith) (λ z. omega arith) ∙ kinds i in (
           a.onward,

@@ -38,7 +38,8 @@ module _ (T : Table) (s : Position) (o : Option Role) where
   pair_in (block ds t) h e x d = absurd (clash e refl)
   pair_in (node l m r) h e x d = absurd (clash e refl)
 
-  pair_place : (K : List ℕ) (p : ℕ) (t : Tree) (b : Bool) (x : ℕ) → b ≡ stays T s o t → x ≡ mark p t → kept_pair b K (x - 1) ≡ kept_pair (stays T s o t) K p
+  pair_place : (K : List ℕ) (p : ℕ) (t : Tree) (b : Bool) (x : ℕ) → b ≡ stays T s o t → x ≡ mark p t
+      → kept_pair b K (x - 1) ≡ kept_pair (stays T s o t) K p
   unfolding stays mark kept_pair
   pair_place K p nothing b x e d = rw e
   pair_place K p (leaf a) b x e d = rw e

@@ -13,7 +13,8 @@ use Rattle.canonical_text.specs.Brackets.{kept_pair, size_if}
 
 -- The stores that make it.
 module _ (K : List ℕ) (o : ℕ) where
-  pub pair_stored : {b : Bool} {K₁ K₂ : List ℕ} {c : ℕ} → b ≡ true → c ≡ closer K o → K₁ ≡ store 4 2 K o 1 → K₂ ≡ store 4 2 K₁ c 1 → K₂ ≡ kept_pair b K o
+  pub pair_stored : {b : Bool} {K₁ K₂ : List ℕ} {c : ℕ} → b ≡ true → c ≡ closer K o → K₁ ≡ store 4 2 K o 1 → K₂ ≡ store 4 2 K₁ c 1
+      → K₂ ≡ kept_pair b K o
   unfolding kept_pair
   pair_stored e f g h = rw e (h ∙ rw (f, g))
 

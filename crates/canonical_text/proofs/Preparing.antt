@@ -7,7 +7,7 @@ use native.Mathlib.Omega.{arith}
 use lib.ListN.{length}
 use Rattle.grammar.specs.Bytes.{Bytes}
 use Rattle.grammar.specs.Declaration.{start_table}
-use Rattle.grammar.specs.Canonical.{canonical, canonical_text, join_pieces, join_tokens}
+use Rattle.grammar.specs.Canonical.{canonical_text, join_pieces, join_tokens}
 use Rattle.grammar.specs.Answer.{Reading, reading_text}
 use Rattle.rows.specs.Fields.{Holds}
 use Rattle.rows.specs.Tokens.{written_of}

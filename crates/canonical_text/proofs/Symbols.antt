@@ -101,7 +101,8 @@ word_symbol (b ∷ s) n c r =
 pub word_no_symbol : (w : Bytes) → IsName w → class (get_or w 0 0) ≡ letter → (run in_word w ≡ length w → ⊥) → false ≡ is_symbol w
 word_no_symbol [] n c d = absurd (omega arith)
 word_no_symbol (b ∷ s) n c d =
-    no_symbol (b ∷ s) (word-every b s c ∙ sym (run_all in_word (b ∷ s)) ∙ ne_eqb (run in_word (b ∷ s)) (length (b ∷ s)) d) (no_sign b s (λ z. omega arith))
+    no_symbol (b ∷ s) (word-every b s c ∙ sym (run_all in_word (b ∷ s)) ∙ ne_eqb (run in_word (b ∷ s)) (length (b ∷ s)) d)
+    (no_sign b s (λ z. omega arith))
 
 -- Another byte first.
 pub other_no_symbol : (w : Bytes) → IsName w → (class (get_or w 0 0) ≡ letter → ⊥) → (class (get_or w 0 0) ≡ sign → ⊥) → false ≡ is_symbol w

@@ -23,7 +23,6 @@ use Rattle.grammar.proofs.Names.{short_run, symbol_doubled, bare_alike}
 use Rattle.rows.specs.Fields.{kind, start, size, Within}
 use Rattle.rows.specs.Tokens.{written_of, token_in, structure_size, size_of, Stored}
 use Rattle.rows.specs.Agreeing.{Noted}
-use Rattle.rows.proofs.Fields.{within}
 use Rattle.rows.proofs.TokenBytes.{token_ends, place_plain}
 use Rattle.rows.proofs.Stored.{
   stored_here,
@@ -172,7 +171,8 @@ module _ {text : Bytes} {ps : List Placed} {K : List ℕ} (v : Stored text ps K)
 
       -- A quoted name leaves what is written of its characters under the operators in force.
       pub part_name :
-          (U : Table) (c : Bytes) → token_in text K j ≡ atom (quoted c) → Noted U R j (quoted c) → part_of text R K₁ j ≡ spelling (atom (written_name U c))
+          (U : Table) (c : Bytes) → token_in text K j ≡ atom (quoted c) → Noted U R j (quoted c)
+          → part_of text R K₁ j ≡ spelling (atom (written_name U c))
       unfolding kind_of spelling written_name stays_quoted
       part_name U c e w = go (is_symbol (doubled c)) refl (in_force U (doubled c)) refl
         where
@@ -211,7 +211,8 @@ module _ {text : Bytes} {ps : List Placed} {K : List ℕ} (v : Stored text ps K)
 
       -- A bracket that stays leaves its byte.
       pub part_bracket :
-          (u : Token) → token_in text K j ≡ u → 4 ≤ kind_of u → kind_of u ≤ 5 → length (spelling u) ≡ 1 → size K₁ j ≡ 1 → part_of text R K₁ j ≡ spelling u
+          (u : Token) → token_in text K j ≡ u → 4 ≤ kind_of u → kind_of u ≤ 5 → length (spelling u) ≡ 1 → size K₁ j ≡ 1
+          → part_of text R K₁ j ≡ spelling u
       part_bracket u e p q o z =
           let n : kind K j ≡ kind_of u = stored_kind v j l ∙ ap kind_of e in
           let m : 1 ≡ length (spelling (token_in text K j)) = sym (ap (λ x. length (spelling x)) e ∙ o) in

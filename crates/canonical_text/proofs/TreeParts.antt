@@ -30,7 +30,17 @@ use Rattle.grammar.specs.Token.{
   structure_number,
 }
 use Rattle.grammar.specs.Operator.{Role, Table, in_force}
-use Rattle.grammar.specs.Declaration.{Declaration, declares, clears, declare_all, declaration_tokens, all_tokens, fixity_word, associativity_word, plain_word}
+use Rattle.grammar.specs.Declaration.{
+  Declaration,
+  declares,
+  clears,
+  declare_all,
+  declaration_tokens,
+  all_tokens,
+  fixity_word,
+  associativity_word,
+  plain_word,
+}
 use Rattle.grammar.specs.Scan.{Placed}
 use Rattle.grammar.specs.Coded.{kind_of}
 use Rattle.grammar.specs.SpanTree.{Position, on_left, on_right, root, role_over, is_operand, is_operand_atom}
@@ -77,7 +87,8 @@ unfolding all_tokens declaration_tokens written strip_declaration
 declared-written [] = refl
 declared-written (declares f a d m ∷ ds) =
     ap
-    (λ ts. atom (symbol (fixity_word f)) ∷ atom (symbol (associativity_word a)) ∷ atom (number (strip d)) ∷ atom (symbol m) ∷ structure semicolon ∷ ts)
+    (λ ts. atom (symbol (fixity_word f)) ∷ atom (symbol (associativity_word a)) ∷ atom (number (strip d))
+    ∷ atom (symbol m) ∷ structure semicolon ∷ ts)
     (declared-written ds)
 declared-written (clears m ∷ ds) = ap (λ ts. atom (symbol plain_word) ∷ atom (symbol m) ∷ structure semicolon ∷ ts) (declared-written ds)
 
@@ -171,7 +182,8 @@ name_some T c e = go (is_symbol c && not (in_force T c)) refl
         omega (arith, token_bytes (atom (symbol c)) (and_left (is_symbol c) (not (in_force T c)) h))
     go false h = let z : length (39 ∷ doubled c ++ 39 ∷ []) ≡ 0 = rw (h, written_name) at e in omega arith
 
-module _ {text : Bytes} {ps : List Placed} {K : List ℕ} (v : Stored text ps K) {T₀ : Table} {t₀ : Tree} {K₁ : List ℕ} (k : KeptRow K T₀ t₀ K₁) (R : List ℕ) where
+module _ {text : Bytes} {ps : List Placed} {K : List ℕ} (v : Stored text ps K) {T₀ : Table} {t₀ : Tree} {K₁ : List ℕ} (k : KeptRow K T₀ t₀ K₁)
+    (R : List ℕ) where
   abbrev f : ℕ → Bytes
   f = part_of text R K₁
 
@@ -181,12 +193,14 @@ module _ {text : Bytes} {ps : List Placed} {K : List ℕ} (v : Stored text ps K)
       one_part f j (part_token v j l k R u e d c) (λ z. omega (arith, token_bytes u (ap is_token (sym e) ∙ stored_valid v j l)))
 
   -- A token of structure by its kind.
-  keyword_kept : (j : ℕ) → j < length ps → (s : Structure) → kind K j ≡ kind_of (structure s) → 6 ≤ kind_of (structure s) → parts f j 1 ≡ spelling (structure s) ∷ []
+  keyword_kept : (j : ℕ) → j < length ps → (s : Structure) → kind K j ≡ kind_of (structure s) → 6 ≤ kind_of (structure s)
+      → parts f j 1 ≡ spelling (structure s) ∷ []
   keyword_kept j l s e h = token_kept j l (structure s) (token_structure text K j s e) (λ z. omega arith) (λ p q. omega arith)
 
   -- The brackets of a pair.
   bracket_kept : (j : ℕ) → j < length ps → (s : Structure) → kind K j ≡ kind_of (structure s) → 4 ≤ kind_of (structure s) → kind_of (structure s) ≤ 5
-      → length (spelling (structure s)) ≡ 1 → (b : Bool) → size K₁ j ≡ size_if b → parts f j 1 ≡ elim b [ true ↦ spelling (structure s) ∷ [] | false ↦ [] ]
+      → length (spelling (structure s)) ≡ 1 → (b : Bool) → size K₁ j ≡ size_if b
+      → parts f j 1 ≡ elim b [ true ↦ spelling (structure s) ∷ [] | false ↦ [] ]
   unfolding size_if
   bracket_kept j l s e p q o true z =
       one_part f j (part_bracket v j l k R (structure s) (token_structure text K j s e) p q o z) (λ y. omega arith)
@@ -264,11 +278,14 @@ module _ {text : Bytes} {ps : List Placed} {K : List ℕ} (v : Stored text ps K)
         let declared : parts f (suc i) d ≡ map spelling (all_tokens (map strip_declaration ds)) =
         stretch_kept (suc i) (all_tokens ds) (omega (arith, h.within)) tokens (declare_tokens ds) ∙ ap (map spelling) (declared-written ds) in
         let e : suc i + d ≡ c = omega arith in
-        let inner : parts f (suc i) (suc (d + a)) ≡ map spelling (all_tokens (map strip_declaration ds) ++ structure keyword_in ∷ flat (canonical (declare_all T ds) t)) =
-        around f (suc i) d a ∙ rw (e, declared, in-at, w) (sym (spellings (all_tokens (map strip_declaration ds)) (structure keyword_in ∷ flat (canonical (declare_all T ds) t)))) in
+        let inner : parts f (suc i) (suc (d + a))
+        ≡ map spelling (all_tokens (map strip_declaration ds) ++ structure keyword_in ∷ flat (canonical (declare_all T ds) t)) =
+        around f (suc i) d a ∙ rw (e, declared, in-at, w)
+        (sym (spellings (all_tokens (map strip_declaration ds)) (structure keyword_in ∷ flat (canonical (declare_all T ds) t)))) in
         ap (parts f i) n ∙ within f i (suc (d + a)) ∙ rw (let_at, end_at, inner)
         (ap (◌∷◌ (spelling (structure keyword_let)))
-        (sym (spellings (all_tokens (map strip_declaration ds) ++ structure keyword_in ∷ flat (canonical (declare_all T ds) t)) (structure keyword_end ∷ []))))
+        (sym (spellings (all_tokens (map strip_declaration ds) ++ structure keyword_in ∷ flat (canonical (declare_all T ds) t))
+        (structure keyword_end ∷ []))))
 
     -- An operand with the bracket pair that it has in the canonical tree.
     operand_parts :

@@ -44,7 +44,8 @@ module _ (T : Table) (s : Position) (o : Option Role) where
 
   -- So an operand that is admitted is there in the canonical tree if it was.
   operand_there :
-      (t : Tree) → InnerOk T t → refuses s o (root T (span_tree t)) ≡ false → present (span_tree (fitted T s o (canonical T t))) ≡ present (span_tree t)
+      (t : Tree) → InnerOk T t → refuses s o (root T (span_tree t)) ≡ false
+      → present (span_tree (fitted T s o (canonical T t))) ≡ present (span_tree t)
   unfolding canonical span_tree present root
   operand_there nothing i a =
       fitted_by (λ u. present (span_tree u) ≡ false) T s o nothing (λ e. refl) (λ e. absurd (clash e a))

@@ -13,9 +13,8 @@ use Rattle.grammar.specs.Answer.{over}
 use Rattle.byte_strings.specs.Puts.{Put}
 use Rattle.byte_strings.proofs.Suffixes.{part_whole}
 use Rattle.byte_strings.proofs.Puts.{sets_then, sets_over}
-use Rattle.rows.specs.Fields.{start, size, Within}
+use Rattle.rows.specs.Fields.{start, size}
 use Rattle.rows.specs.Tokens.{written_of}
-use Rattle.rows.proofs.Fields.{within}
 use Rattle.canonical_text.specs.Pieces.{pieces, behind, InText}
 use Rattle.canonical_text.proofs.Parts.{before_none, before_some, parts_end, parts_next}
 
@@ -74,9 +73,6 @@ fill_start {text} {K} {to} {b} =
 
 module _ {text : Bytes} {K : List ℕ} {to : ℕ} (h : InText text K to) where
   module _ {i : ℕ} (l : i < to) where
-    pub in_row : Within 4 K i
-    in_row = within 4 to K i h.rows l
-
     long_here : length (written_of text K i) ≡ size K i
     long_here = length-take (size K i) (drop (start K i) text) ∙ omega (arith, h.within i l, length-drop (start K i) text)
 
@@ -99,9 +95,17 @@ module _ {text : Bytes} {K : List ℕ} {to : ℕ} (h : InText text K to) where
             ap (written n) (parts_next (written_of text K) to i l ∙ before_some (written_of text K i) _ (λ z. d (sym long_here ∙ z)))
             ∙ written_next n m (written_of text K i) (pieces text K (suc i) (to - suc i))
 
-        pub next_fits : {p : Bytes} → p ≡ written_of text K i → length (join_pieces (pieces text K 0 to)) ≤ length b₀ → n + length (behind n p) ≤ length b
+        pub next_fits : {p : Bytes} → p ≡ written_of text K i → length (join_pieces (pieces text K 0 to)) ≤ length b₀
+            → n + length (behind n p) ≤ length b
         next_fits e f =
-            rw e (omega (arith, v.size, v.sum, f, ap length (rest 0), length-append (behind n (written_of text K i)) (written 1 (pieces text K (suc i) (to - suc i)))))
+            rw e (omega (
+              arith,
+              v.size,
+              v.sum,
+              f,
+              ap length (rest 0),
+              length-append (behind n (written_of text K i)) (written 1 (pieces text K (suc i) (to - suc i))),
+            ))
 
         pub fill_next : {b' : List ℕ} {p : Bytes} {r : ℕ} → p ≡ written_of text K i → Put b n (behind n p) b' r → Filled text K to b₀ b' r (suc i)
         fill_next {b'} {p} {r} e w =

@@ -1,4 +1,6 @@
 // The declarations of a part one after another, and the operators in force behind them: refusals 8, 17 and 9.
+#![tactic(auto)]
+
 ghost use Rattle.std.specs.Prelude.{◌≡◌};
 ghost use Rattle.operators.specs.Entries.{table_by, table_of, Sound};
 ghost use Rattle.declaring.specs.Declaring.{is_new, is_full, PartAt, part_of, Declares};

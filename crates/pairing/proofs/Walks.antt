@@ -23,7 +23,8 @@ use Rattle.pairing.specs.declared.Move as Declared
 use Rattle.pairing.specs.declared.Move.TheVariants.{Stay, Break, Open as Opens, Turn, Close}
 use Rattle.pairing.specs.declared.Paired.TheVariants.{Passed, Refused}
 use Rattle.pairing.specs.Pairing.{open_code, coded_move, has_block, coded_nesting, tokens_by, Kinded, Pairing}
-use Rattle.pairing.proofs.Moves.{Does, opens, closes, separates, begins, turns, ends, breaks, move_does, structure_kind, structure_token, atom_kind-stays}
+use Rattle.pairing.proofs.Moves.{Does, opens, closes, separates, begins, turns, ends, breaks}
+use Rattle.pairing.proofs.Moves.{move_does, structure_kind, structure_token, atom_kind-stays}
 use Rattle.pairing.proofs.OpenPairs.{
   OpenPairs,
   none_open,

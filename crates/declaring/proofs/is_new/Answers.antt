@@ -1,6 +1,5 @@
--- By what was found. Assumes nothing.
+-- By what was found.
 use mathlib.Core.Path.{sym, ap}
-use borrow.Author.Rules.{rules}
 use Rattle.declaring.specs.Declaring.{is_new}
 use Rattle.declaring.proofs.is_new.Goals as goal
 

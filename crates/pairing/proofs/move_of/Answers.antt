@@ -9,6 +9,7 @@ use Rattle.pairing.proofs.Moves.{move_by, move_by_lem, move_at, token_end}
 use Rattle.pairing.proofs.move_of.Goals as goal
 use Rattle.pairing.proofs.move_of.Goals.{In_default}
 
+-- In the last arm the token is `end`.
 ends : (c : In_default) → token_of c.args.kind [] ≡ structure keyword_end
 ends c =
     token_end c.args.kind c.requires (λ h. omega arith) (λ h. omega arith) (λ h. omega arith) (λ h. omega arith) (λ h. omega arith)

@@ -2,12 +2,10 @@
 use mathlib.Core.Path.{◌≡◌, sym, ◌∙◌}
 use mathlib.Core.Bool.{Bool, not}
 use mathlib.Core.Option.{some}
-use Prim.Native.Nat.{ℕ, ◌-◌, ◌<◌}
-use native.Mathlib.Omega.{arith}
+use Prim.Native.Nat.{ℕ, ◌<◌}
 use Rattle.grammar.specs.Operator.{Role, Table}
 use Rattle.grammar.specs.SpanTree.{Position, on_left, on_right, admits}
 use Rattle.grammar.specs.Tree.{Tree}
-use Rattle.rows.specs.Fields.{kind}
 use Rattle.rows.specs.Codes.{role_of, IsRole}
 use Rattle.canonical_text.specs.Brackets.{stays, OperandAt}
 use Rattle.rows.proofs.BelowTokens.{leads_within}
@@ -23,13 +21,10 @@ use Rattle.canonical_text.proofs.Operand.{
   operand_held,
 }
 use Rattle.canonical_text.proofs.brackets.is_needed.Goals as goal
-use Rattle.canonical_text.proofs.brackets.is_needed.Goals.{After-role_in_use-held, Else-kind-ne-OPENING, Start}
+use Rattle.canonical_text.proofs.brackets.is_needed.Goals.{After-role_in_use-held}
 
 pub returns-then-operand-eq0 : goal.returns-then-operand-eq0
 returns-then-operand-eq0 c T j t q h = operand_none h _ c.if-operand-eq0.true
-
-pub overflow_sub-opener : goal.overflow_sub-opener
-overflow_sub-opener c = omega arith
 
 pub kind-requires : goal.kind-requires
 kind-requires c = leads_within (operand_leads c.requires.4 c.if-operand-eq0.false)
@@ -38,47 +33,34 @@ pub returns-then-kind-ne-OPENING : goal.returns-then-kind-ne-OPENING
 returns-then-kind-ne-OPENING c T j t q h = operand_bare h c.if-operand-eq0.false _ (λ e. c.if-kind-ne-OPENING.true (c.kind.ensures ∙ e))
 
 -- The operand is a bracket pair.
-module _ (c : Else-kind-ne-OPENING) where
-  abbrev start : Start
-  start = c
-
-  apart : start.args.operand ≡ 0 → ⊥
-  apart = c.if-operand-eq0.false
-
-  is-pair : kind start.args.tokens.now (start.args.operand - 1) ≡ 4
-  is-pair = sym c.kind.ensures ∙ c.if-kind-ne-OPENING.false
-
 pub content-requires : goal.content-requires
-content-requires c = (is-pair (goal.at.content-requires c).Else-kind-ne-OPENING, (_, operand_leads (start (goal.at.content-requires c).Else-kind-ne-OPENING).requires.4 (apart (goal.at.content-requires c).Else-kind-ne-OPENING)))
+content-requires c = (sym c.kind.ensures ∙ c.if-kind-ne-OPENING.false, (_, operand_leads c.requires.4 c.if-operand-eq0.false))
 
 pub role_in_use-held-requires : goal.role_in_use-held-requires
 role_in_use-held-requires c =
-    let h = (start (goal.at.role_in_use-held-requires c).Else-kind-ne-OPENING).pre.4 in
-    let d = apart (goal.at.role_in_use-held-requires c).Else-kind-ne-OPENING in
+    let h = c.requires.4 in
+    let d = c.if-operand-eq0.false in
     let e = c.content.ensures _ (operand_leads h d) in
     (held_in_roles h d _ e, held_in_roots h d _ e)
 
 -- The test of the role on each side.
 module _ (c : After-role_in_use-held) where
-  abbrev entry : Start
-  entry = start c
-
-  tested : IsRole entry.args.role × IsRole c.role_in_use-held.result × (0 < entry.args.role)
+  tested : IsRole c.args.role × IsRole c.role_in_use-held.result × (0 < c.args.role)
   tested =
-      let h = entry.pre.4 in
-      let d = apart c in
+      let h = c.requires.4 in
+      let d = c.if-operand-eq0.false in
       let e = c.content.ensures _ (operand_leads h d) in
       (is_role_lem h, held_is_role h d _ e _ c.role_in_use-held.ensures, has_role_lem h)
 
   answered :
-      (s : Position) (b : Bool) → ((p : Role) → role_of entry.args.role ≡ some p → b ≡ admits s p (role_of c.role_in_use-held.result))
+      (s : Position) (b : Bool) → ((p : Role) → role_of c.args.role ≡ some p → b ≡ admits s p (role_of c.role_in_use-held.result))
       → (T : Table) (j : ℕ) (t : Tree) (q : Role)
-      → OperandAt entry.args.tokens.now entry.args.roles.now entry.args.roots.now entry.args.role entry.args.operand T j t q
+      → OperandAt c.args.tokens.now c.args.roles.now c.args.roots.now c.args.role c.args.operand T j t q
       → not b ≡ stays T s (some q) t
   answered s b f T j t q h =
-      let d = apart c in
+      let d = c.if-operand-eq0.false in
       let e = c.content.ensures _ (operand_leads h d) in
-      operand_held h d _ e _ c.role_in_use-held.ensures s b (is-pair c) f
+      operand_held h d _ e _ c.role_in_use-held.ensures s b (sym c.kind.ensures ∙ c.if-kind-ne-OPENING.false) f
 
 pub admits_right-requires : goal.admits_right-requires
 admits_right-requires c = tested (goal.at.admits_right-requires c).After-role_in_use-held

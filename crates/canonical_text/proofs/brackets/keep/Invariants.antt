@@ -1,14 +1,9 @@
 -- The loop's invariant: of every tree that stands in the rows, the pairs are kept that the operators passed need.
-use mathlib.Core.Path.{◌≡◌, sym, ◌∙◌}
-use mathlib.Core.Logic.{⊎_elim}
 use Prim.Native.Nat.{◌-◌}
-use native.Mathlib.Numerals.{add-one}
-use native.Mathlib.Omega.{arith}
 use Rattle.grammar.specs.Operator.{Table}
 use Rattle.grammar.specs.Tree.{Tree}
-use Rattle.rows.specs.Fields.{kind}
 use Rattle.canonical_text.specs.Brackets.{Keepable}
-use Rattle.canonical_text.proofs.Keeping.{KeptTo, keeping_start, keeping_end, in_tokens_lem, in_roles, turn_jumps, turn_plain, turn_operator}
+use Rattle.canonical_text.proofs.Keeping.{KeptTo}
 use Rattle.canonical_text.proofs.brackets.keep.Given as goal
 
 abbrev pub invariant-loop-i : goal.invariant-loop-i

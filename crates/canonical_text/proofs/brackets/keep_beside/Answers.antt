@@ -1,5 +1,4 @@
 -- The operator's role and operands are those of its tree; the left pair is kept before the right one is asked for.
-use borrow.Author.Rules.{rules}
 use Rattle.canonical_text.proofs.Operator.{in_roles, in_roots, left_operand, right_operand, left_pair, right_pair, pairs_kept}
 use Rattle.canonical_text.proofs.brackets.keep_beside.Goals as goal
 
@@ -14,46 +13,34 @@ role_beside-role-requires c = in_roles c.requires.5
 
 pub is_needed-on_left-requires : goal.is_needed-on_left-requires
 is_needed-on_left-requires c =
-    let g = c in
-    let h = g.requires.5 in
-    (_, _, _, _, left_operand h g.left-left.ensures g.right-right.ensures g.role_beside-role.ensures)
+    let h = c.requires.5 in
+    (_, _, _, _, left_operand h c.left-left.ensures c.right-right.ensures c.role_beside-role.ensures)
 
 pub keep_pair-requires : goal.keep_pair-requires
 keep_pair-requires c =
-    let n = c in
-    let g = n in
-    let h = g.requires.5 in
-    let d = g.left-left.ensures in
-    let e = g.right-right.ensures in
-    left_pair h d e g.role_beside-role.ensures (n.is_needed-on_left.ensures _ _ _ _ (left_operand h d e g.role_beside-role.ensures))
+    let h = c.requires.5 in
+    let d = c.left-left.ensures in
+    let e = c.right-right.ensures in
+    left_pair h d e c.role_beside-role.ensures (c.is_needed-on_left.ensures _ _ _ _ (left_operand h d e c.role_beside-role.ensures))
 
 pub is_needed-on_right-requires : goal.is_needed-on_right-requires
 is_needed-on_right-requires c =
-    let k = c in
-    let g = k in
-    let h = g.requires.5 in
-    (_, _, _, _, right_operand h g.left-left.ensures g.right-right.ensures g.role_beside-role.ensures _ k.keep_pair.ensures)
+    let h = c.requires.5 in
+    (_, _, _, _, right_operand h c.left-left.ensures c.right-right.ensures c.role_beside-role.ensures _ c.keep_pair.ensures)
 
 pub keep_pair-requires-2 : goal.keep_pair-requires-2
 keep_pair-requires-2 c =
-    let n = c in
-    let k = n in
-    let g = k in
-    let h = g.requires.5 in
-    let d = g.left-left.ensures in
-    let e = g.right-right.ensures in
-    let f = g.role_beside-role.ensures in
-    right_pair h d e f (k.is_needed-on_left.ensures _ _ _ _ (left_operand h d e f))
-    (n.is_needed-on_right.ensures _ _ _ _ (right_operand h d e f _ k.keep_pair.ensures)) k.keep_pair.ensures
+    let h = c.requires.5 in
+    let d = c.left-left.ensures in
+    let e = c.right-right.ensures in
+    let f = c.role_beside-role.ensures in
+    right_pair h d e f (c.is_needed-on_left.ensures _ _ _ _ (left_operand h d e f))
+    (c.is_needed-on_right.ensures _ _ _ _ (right_operand h d e f _ c.keep_pair.ensures)) c.keep_pair.ensures
 
 pub returns : goal.returns
 returns c T j l m r h =
-    let s = c in
-    let n = s in
-    let k = n in
-    let g = k in
-    let d = g.left-left.ensures in
-    let e = g.right-right.ensures in
-    let f = g.role_beside-role.ensures in
-    pairs_kept h d e f (k.is_needed-on_left.ensures _ _ _ _ (left_operand h d e f))
-    (n.is_needed-on_right.ensures _ _ _ _ (right_operand h d e f _ k.keep_pair.ensures)) k.keep_pair.ensures s.keep_pair-2.ensures
+    let d = c.left-left.ensures in
+    let e = c.right-right.ensures in
+    let f = c.role_beside-role.ensures in
+    pairs_kept h d e f (c.is_needed-on_left.ensures _ _ _ _ (left_operand h d e f))
+    (c.is_needed-on_right.ensures _ _ _ _ (right_operand h d e f _ c.keep_pair.ensures)) c.keep_pair.ensures c.keep_pair-2.ensures

@@ -1,5 +1,4 @@
 -- The pairs that stay, then what each token leaves.
-use borrow.Author.Rules.{rules}
 use Rattle.canonical_text.proofs.Preparing.{ready_keepable, ready_held, ready_trimmable, ready_prepared}
 use Rattle.canonical_text.proofs.pieces.prepare.Goals as goal
 
@@ -8,12 +7,10 @@ keep-requires c = let p = c.requires in (_, _, ready_keepable p.1 p.2)
 
 pub trim-requires : goal.trim-requires
 trim-requires c =
-    let k = c in
-    let p = k.requires in
-    let e = k.keep.ensures _ _ (ready_keepable p.1 p.2) in
+    let p = c.requires in
+    let e = c.keep.ensures _ _ (ready_keepable p.1 p.2) in
     (ready_held p.1 p.2 e, ready_trimmable p.1 p.2 e)
 
 pub returns : goal.returns
 returns c r h e =
-    let t = c in
-    ready_prepared h e (t.keep.ensures _ _ (ready_keepable h e)) t.trim.ensures
+    ready_prepared h e (c.keep.ensures _ _ (ready_keepable h e)) c.trim.ensures

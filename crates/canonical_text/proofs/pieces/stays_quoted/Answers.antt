@@ -1,7 +1,6 @@
 -- A role of the row, or bytes that cannot stand bare.
 use mathlib.Core.Path.{sym, ap, ◌∙◌}
 use mathlib.Core.Bool.{not}
-use borrow.Author.Rules.{rules}
 use Rattle.canonical_text.proofs.Quoting.{quoted_prefix, quoted_infix, quoted_postfix, quoted_none}
 use Rattle.canonical_text.proofs.pieces.stays_quoted.Goals as goal
 
@@ -16,9 +15,6 @@ returns-then-postfix-ne0 c = quoted_postfix _ _ _ (λ e. c.if-postfix-ne0.true (
 
 pub returns : goal.returns
 returns c =
-    let q = c in
-    let i = q in
-    let p = i in
     ap not c.is_symbol.ensures
-    ∙ quoted_none _ _ _ (sym p.prefix.ensures ∙ i.if-prefix-ne0.false) (sym i.infix.ensures ∙ q.if-infix-ne0.false)
-    (sym q.postfix.ensures ∙ c.if-postfix-ne0.false)
+    ∙ quoted_none _ _ _ (sym c.prefix.ensures ∙ c.if-prefix-ne0.false) (sym c.infix.ensures ∙ c.if-infix-ne0.false)
+    (sym c.postfix.ensures ∙ c.if-postfix-ne0.false)

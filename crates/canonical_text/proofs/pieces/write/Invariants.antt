@@ -1,12 +1,6 @@
 -- The loop's invariant: the bytes for the tokens passed stand over the front of the buffer.
-use mathlib.Core.Path.{sym, ◌∙◌}
-use mathlib.Core.Logic.{⊎_elim}
-use Prim.Native.Nat.{◌+◌, ◌-◌, ◌≤◌}
-use native.Mathlib.Numerals.{add-one}
-use native.Mathlib.Omega.{arith}
-use lib.ListN.{length}
-use borrow.Author.Rules.{rules}
-use Rattle.canonical_text.proofs.Written.{Filled, fill_start, in_row, cut_here, fill_skip, next_fits, fill_next, fill_end}
+use Prim.Native.Nat.{◌-◌}
+use Rattle.canonical_text.proofs.Written.{Filled}
 use Rattle.canonical_text.proofs.pieces.write.Given as goal
 
 abbrev pub invariant-loop-i : goal.invariant-loop-i
