@@ -11,7 +11,23 @@ use Rattle.grammar.specs.Bytes.{Bytes}
 use Rattle.grammar.specs.Operator.{Role, Table, role}
 use Rattle.grammar.specs.Span.{Item, single, pair, scope, items}
 use Rattle.grammar.specs.SpanTree.{SpanTree, missing, operand, apply, present, role_over, root}
-use Rattle.grammar.specs.Climb.{Stack, empty, waiting, pushed, closed, takes, arrives, postfix_last, finish, Ending, stops, ending, climb_from, unread, search}
+use Rattle.grammar.specs.Climb.{
+  Stack,
+  empty,
+  waiting,
+  pushed,
+  closed,
+  takes,
+  arrives,
+  postfix_last,
+  finish,
+  Ending,
+  stops,
+  ending,
+  climb_from,
+  unread,
+  search,
+}
 use Rattle.grammar.proofs.ClimbReached.{at}
 use Rattle.grammar.proofs.Logic.{impossible, clash}
 use Rattle.rows.specs.Fields.{field, arrival, left, right, prefix, infixed, postfix}
@@ -26,9 +42,37 @@ use Rattle.climb.specs.Searched.{width, span_mark, SpanRooted, Searches, InForce
 use Rattle.climb.specs.Beside.{item_end, arrives_at}
 use Rattle.rows.specs.InUse.{role_beside}
 use Rattle.climb.proofs.Roles.{fit_over, fit_root, gives_same, gives_last}
-use Rattle.climb.proofs.Pass.{Next, last, comes, pass_operand, pass_untaken, pass_two, pass_waits, pass_refuses, pushed_waits, pass_closes, AllTake, arrives-takes, final_left}
+use Rattle.climb.proofs.Pass.{
+  Next,
+  last,
+  comes,
+  pass_operand,
+  pass_untaken,
+  pass_two,
+  pass_waits,
+  pass_refuses,
+  pushed_waits,
+  pass_closes,
+  AllTake,
+  arrives-takes,
+  final_left,
+}
 use Rattle.climb.proofs.Coming.{OperatorAt, operand_at, operator_at}
-use Rattle.climb.proofs.Waiting.{width_missing, width_operand, width_apply, mark_most, Same, Built, WaitsAt, Waits, waits_behind, built_kept, waits_kept, over-code, taking-code}
+use Rattle.climb.proofs.Waiting.{
+  width_missing,
+  width_operand,
+  width_apply,
+  mark_most,
+  Same,
+  Built,
+  WaitsAt,
+  Waits,
+  waits_behind,
+  built_kept,
+  waits_kept,
+  over-code,
+  taking-code,
+}
 use Rattle.climb.proofs.Arrives.{widest, TakingCode, taking_is_role, untaken, taken, roles_are, arrives-same}
 
 -- The innermost operator that waits does not give way, if one waits.
@@ -174,8 +218,8 @@ module _ (text : Bytes) (T : Table) (K R : List ℕ) (from to : ℕ) where
   single_rooted O i (scope ds ts) e f = tt
 
   pub takes_operand :
-      (O O' : List ℕ) (h d q k i : ℕ) → Bounded T → Climbing O h d q k i → i < to → arrival R i ≡ 0 → d ≡ 0 → (k ≡ 0 → ⊥) → left O' i ≡ 0 → right O' i ≡ 0
-      → Same O O' from i → Climbing O' h (suc i) 0 k (item_end K i)
+      (O O' : List ℕ) (h d q k i : ℕ) → Bounded T → Climbing O h d q k i → i < to → arrival R i ≡ 0 → d ≡ 0 → (k ≡ 0 → ⊥)
+      → left O' i ≡ 0 → right O' i ≡ 0 → Same O O' from i → Climbing O' h (suc i) 0 k (item_end K i)
   unfolding span_mark root role_code
   takes_operand O O' h d q k i b x l e n z p r f =
       let y = operand_at x.rest l e in

@@ -208,7 +208,9 @@ parts_spare {K = K} (inner {i = i} {to = to} o e U x f p q) = (
 )
 
 -- All of its tokens are its items'.
-pub parts_long : {text : Bytes} {K R : List ℕ} {T : Table} {i to : ℕ} → Parts text K R T i to → i + length (all_item_tokens (items (range text K i to))) ≡ to
+pub parts_long :
+    {text : Bytes} {K R : List ℕ} {T : Table} {i to : ℕ} → Parts text K R T i to
+    → i + length (all_item_tokens (items (range text K i to))) ≡ to
 unfolding all_item_tokens item_tokens
 parts_long {text} {K} (done {to = to}) = rw (items_done text K to) (omega arith)
 parts_long {text} {K} (own {i = i} {to = to} l a p) = rw (items_single text K i to l a) (omega (arith, parts_long p))

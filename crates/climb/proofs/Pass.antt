@@ -99,11 +99,14 @@ module _ (T : Table) where
   unfolding arrived
   not_arrived w o m a = rw (arrived, a)
 
-  module _ (n : ℕ) (w : Stack) (o : SpanTree) (m : Bytes) (is : List Item) (e : is_operand T (single (symbol m)) ≡ false) (p : pushed T m w o ≡ waiting o m w) where
+  module _
+      (n : ℕ) (w : Stack) (o : SpanTree) (m : Bytes) (is : List Item) (e : is_operand T (single (symbol m)) ≡ false)
+      (p : pushed T m w o ≡ waiting o m w) where
     pub pass_waits : arrives T o m w ≡ true → climb_from T n (at w o) (single (symbol m) ∷ is) ≡ climb_from T (suc n) (at (waiting o m w) missing) is
     unfolding item_tokens
     pass_waits a =
-        pass_step n (suc n) (at w o) (at (waiting o m w) missing) (single (symbol m)) is (omega arith) (step_operator w o m e ∙ ap (arrived T) p ∙ arrived_by w o m a)
+        pass_step n (suc n) (at w o) (at (waiting o m w) missing) (single (symbol m)) is (omega arith)
+        (step_operator w o m e ∙ ap (arrived T) p ∙ arrived_by w o m a)
 
     pub pass_refuses : arrives T o m w ≡ false → climb_from T n (at w o) (single (symbol m) ∷ is) ≡ stops n
     pass_refuses a = pass_stop n (at w o) (single (symbol m)) is (step_operator w o m e ∙ ap (arrived T) p ∙ not_arrived w o m a)
@@ -129,7 +132,8 @@ module _ (T : Table) where
     unfolding pushed
     pushed-closes m e = rw (e, pushed)
 
-    pub pushed_waits : (m : Bytes) → gives_way (role_over T l t o) (left_role T m) ≡ false → pushed T m (waiting l t w) o ≡ waiting o m (waiting l t w)
+    pub pushed_waits :
+        (m : Bytes) → gives_way (role_over T l t o) (left_role T m) ≡ false → pushed T m (waiting l t w) o ≡ waiting o m (waiting l t w)
     unfolding pushed
     pushed_waits m e = rw (e, pushed)
 
@@ -150,7 +154,9 @@ module _ (T : Table) where
     unfolding climb_from gives_way_to
     pass_closes b n is v (last e d) g = rw e (go (role_over T l t o) refl g)
       where
-        go : (x : Option Role) → role_over T l t o ≡ x → gives_way_to x v ≡ true → ending n (finish T (at (waiting l t w) o)) ≡ ending n (finish T (at w (apply l t o)))
+        go :
+            (x : Option Role) → role_over T l t o ≡ x → gives_way_to x v ≡ true
+            → ending n (finish T (at (waiting l t w) o)) ≡ ending n (finish T (at w (apply l t o)))
         go none f h = absurd (clash h refl)
         go (some q) f h = ap (ending n) (final_closes q f)
     pass_closes b n is v (comes m rest e d f) g =

@@ -1,2 +1,4 @@
 // Texts in hexadecimal, one to a line.
+#![tactic(auto)]
+
 pub mod lines;

@@ -6,8 +6,6 @@ use mathlib.Core.List.{List}
 use Prim.Native.Nat.{ℕ, ◌-◌, ◌≤◌, ◌<◌}
 use native.Mathlib.Numerals.{add-one}
 use native.Mathlib.Omega.{arith}
-use borrow.Author.Rules.{rules}
-use borrow.Author.Tests.{not-true, not-false}
 use Rattle.grammar.specs.Bytes.{Bytes}
 use Rattle.grammar.specs.Operator.{Table}
 use Rattle.grammar.specs.Span.{items}
@@ -22,7 +20,6 @@ use Rattle.climb.proofs.Pass.{Next, next_bound}
 use Rattle.climb.proofs.Coming.{OperandAt, operand_at}
 use Rattle.climb.proofs.Climbing.{
   Climbing,
-  Top,
   begins,
   top,
   bounds,
@@ -56,162 +53,110 @@ use Rattle.climb.proofs.Kept.{
   left_kept,
   right-other,
 }
+use Rattle.climb.proofs.search.root.Invariants.{States}
 use Rattle.climb.proofs.search.root.Goals as goal
-use Rattle.climb.proofs.search.root.Goals.{After-item_end-i, At-loop-waiting, At-span, Else-not-gives_way, Else-to-i, Else-waiting-eq0, Else-waiting-ne0, Joined-i-to, Joined-waiting-eq0, Then-arrival-eq0}
-
-abbrev States : List ℕ → List ℕ → ℕ → ℕ → List ℕ → ℕ → ℕ → ℕ → ℕ → ℕ → Type 0
-States K R from to O h d q k i = (text : Bytes) (T : Table) → InForce text T K R from to → Climbing text T K R from to O h d q k i
+use Rattle.climb.proofs.search.root.Goals.{
+  Joined-i-to,
+  Joined-waiting-eq0,
+  then-i-to,
+  else-i-to,
+  then-waiting-eq0,
+  else-waiting-eq0+then-not-gives_way,
+}
 
 climbing-as :
     {text : Bytes} {T : Table} {K R : List ℕ} {from to : ℕ} {O : List ℕ} {h h' d q q' k i : ℕ} → h' ≡ h → q' ≡ q
     → Climbing text T K R from to O h d q k i → Climbing text T K R from to O h' d q' k i
 climbing-as e f x = rw (e, f) x
 
-abbrev AtSpan : Type 0
-AtSpan = At-span
+-- The roles are those under some operators.
+abbrev Known : List ℕ → List ℕ → ℕ → ℕ → Type 0
+Known K R from to = (text : Bytes) × (T : Table) × InForce text T K R from to
 
-abbrev Comes : Type 0
-Comes = Joined-i-to
+tokens-hold : {K R O : List ℕ} {to : ℕ} → Rows K R O to → (j : ℕ) → j < to → Within 4 K j
+tokens-hold {K = K} {to = to} r j h = within 4 to K j r.tokens h
 
-abbrev AtLoop : Type 0
-AtLoop = At-loop-waiting
+roles-hold : {K R O : List ℕ} {to : ℕ} → Rows K R O to → (j : ℕ) → j < to → Within 4 R j
+roles-hold {R = R} {to = to} r j h = within 4 to R j r.roles h
 
-abbrev Stopped : Type 0
-Stopped = Joined-waiting-eq0
+roots-hold : {K R O O' : List ℕ} {from to : ℕ} → Rows K R O to → RootsKept O from to O' → (j : ℕ) → j < to → Within 2 O' j
+roots-hold {O' = O'} {to = to} r k j h = within 2 to O' j (r.roots.0, omega (arith, k.long, r.roots.1)) h
 
-abbrev Waiting : Type 0
-Waiting = Else-waiting-eq0
+loop-kept : {O P Q : List ℕ} {from to : ℕ} → RootsKept O from to P → RootsKept P from to Q → RootsKept O from to Q
+loop-kept {O = O} {P = P} {Q = Q} {from = from} {to = to} f g = kept_then O P Q from to f g
 
--- The rows, and the tokens from which and to which the span goes.
-abbrev tokens_of : AtSpan → List ℕ
-tokens_of c = c.args.tokens.now
+-- Where things stand.
+stands :
+    {K R O O' : List ℕ} {from to h d q k i : ℕ} → Rows K R O to → Known K R from to → States K R from to O' h d q k i
+    → (from ≤ i) × (i ≤ to) × (to ≤ 1024) × (h ≤ 1024) × (d ≤ 1024)
+stands r (text, T, f) s =
+    let b = bounds text T _ _ _ _ _ _ _ _ _ _ (s text T f) in
+    let n = r.tokens.0 in
+    (b.0, b.1, n, omega (arith, b.1, b.2), omega (arith, b.1, b.3))
 
-abbrev roles_of : AtSpan → List ℕ
-roles_of c = c.args.roles.now
-
-abbrev first : AtSpan → ℕ
-first c = c.args.from
-
-abbrev end : AtSpan → ℕ
-end c = c.args.to
-
-abbrev Known : AtSpan → Bytes → Table → Type 0
-Known c text T = InForce text T (tokens_of c) (roles_of c) (first c) (end c)
-
--- What is asked of the rows: they have the tokens of the span, and the roles under some operators.
-rows_of : (c : AtSpan) → Rows (tokens_of c) (roles_of c) c.args.roots.now (end c)
-rows_of c = c.requires.0
-
-known : (c : AtSpan) → (text : Bytes) × (T : Table) × Known c text T
-known c = c.requires.1
-
-tokens-hold : (c : AtSpan) (j : ℕ) → j < end c → Within 4 (tokens_of c) j
-tokens-hold c j h = within 4 (end c) (tokens_of c) j (rows_of c).tokens h
-
-roles-hold : (c : AtSpan) (j : ℕ) → j < end c → Within 4 (roles_of c) j
-roles-hold c j h = within 4 (end c) (roles_of c) j (rows_of c).roles h
-
-roots-hold : (c : AtSpan) (j : ℕ) → j < end c → Within 2 c.span.roots j
-roots-hold c j h =
-    within 2 (end c) c.span.roots j ((rows_of c).roots-1.0, omega (arith, c.span.invariant.1.long, (rows_of c).roots-1.1)) h
-
-loop-roots-hold : (c : AtLoop) (j : ℕ) → j < end c → Within 2 c.loop-waiting.roots j
-loop-roots-hold c j h =
-    let w = roots-hold c j h in
-    (w.0, omega (arith, w.1, c.loop-waiting.invariant.1.long))
-
-span-bounds : (c : AtSpan) → (first c ≤ c.span.i) × (c.span.i ≤ end c) × (end c ≤ 1024)
-span-bounds c =
-    let b = bounds _ _ _ _ _ _ _ _ _ _ _ _ (c.span.invariant.0 (known c).0 (known c).1 (known c).2) in
-    (b.0, b.1, (rows_of c).tokens.0)
+-- The innermost operator that waits.
+place-bounds :
+    {K R O O' : List ℕ} {from to h d q k i : ℕ} → Rows K R O to → Known K R from to → States K R from to O' h d q k i → (h ≡ 0 → ⊥)
+    → (from ≤ h - 1) × (h - 1 < to) × (right O' (h - 1) < h)
+place-bounds {h = h} r (text, T, f) s n =
+    let t = top_bounds text T _ _ _ _ _ _ _ _ _ (top text T _ _ _ _ _ _ _ _ _ _ (h - 1) (s text T f) (omega arith)) in
+    let b = bounds text T _ _ _ _ _ _ _ _ _ _ (s text T f) in
+    (t.0, omega (arith, t.1, b.1), omega (arith, t.2))
 
 -- What comes: a token of the span, or nothing more.
 comes-at :
-    (c : Comes)
-    → ((c.span.i < end c) × (c.if-i-to.arrival ≡ arrival (roles_of c) c.span.i))
-    ⊎ ((end c ≤ c.span.i) × (c.if-i-to.arrival ≡ 2047))
-comes-at c = ⊎_elim (λ w. inl (w.0.taken, w.2 ∙ w.1.ensures)) (λ w. inr (w.0.left, w.1)) c.if-i-to.branch
+    (c : Joined-i-to)
+    → ((c.span.i < c.args.to) × (c.if-i-to.arrival ≡ arrival c.args.roles.now c.span.i))
+    ⊎ ((c.args.to ≤ c.span.i) × (c.if-i-to.arrival ≡ 2047))
+comes-at c =
+    elim c.if-i-to.branch [
+      | then-i-to w ↦ inl (w.if-i-to.true, w.arrival-is ∙ w.arrival-arrival.ensures)
+      | else-i-to w ↦ inr (w.if-i-to.false, w.arrival-is)
+    ]
 
-operand-comes :
-    (c : Then-arrival-eq0)
-    → (c.span.i < end c) × (arrival (roles_of c) c.span.i ≡ 0)
-operand-comes c = ⊎_elim (λ w. (w.0, sym w.1 ∙ c.if-arrival-eq0.true)) (λ w. absurd (omega arith)) (comes-at c)
+operand-comes : (c : Joined-i-to) → c.if-i-to.arrival ≡ 0 → (c.span.i < c.args.to) × (arrival c.args.roles.now c.span.i ≡ 0)
+operand-comes c e = ⊎_elim (λ w. (w.0, sym w.1 ∙ e)) (λ w. absurd (omega (arith, w.1))) (comes-at c)
 
 operand_there :
-    (c : Then-arrival-eq0)
-    → let a = c in OperandAt (known a).0 (known a).1 (tokens_of a) (roles_of a) a.span.i (end a)
-operand_there c =
-    let a = c in
-    operand_at (a.span.invariant.0 (known a).0 (known a).1 (known a).2).rest (operand-comes c).0 (operand-comes c).1
+    (c : Joined-i-to) → c.if-i-to.arrival ≡ 0
+    → OperandAt c.requires.1.0 c.requires.1.1 c.args.tokens.now c.args.roles.now c.span.i c.args.to
+operand_there c e =
+    let k = c.requires.1 in
+    operand_at (c.span.invariant.0 k.0 k.1 k.2).rest (operand-comes c e).0 (operand-comes c e).1
 
-abbrev operand-left : After-item_end-i → Then-arrival-eq0
-operand-left c = c
+operator-comes : (c : Joined-i-to) → c.span.i < c.args.to → c.if-i-to.arrival ≡ arrival c.args.roles.now c.span.i
+operator-comes c h = ⊎_elim (λ w. w.1) (λ w. absurd (omega (arith, w.0))) (comes-at c)
 
--- The innermost operator that waits.
-module _ (c : Waiting) where
-  abbrev span_of : AtSpan
-  span_of = c
+end-comes : (c : Joined-i-to) → c.args.to ≤ c.span.i → c.if-i-to.arrival ≡ 2047
+end-comes c h = ⊎_elim (λ w. absurd (omega (arith, w.0))) (λ w. w.1) (comes-at c)
 
-  abbrev row : List ℕ
-  row = c.loop-waiting.roots
-
-  abbrev read : ℕ
-  read = c.loop-waiting.operand
-
-  abbrev coming : ℕ
-  coming = c.if-i-to.arrival
-
-  abbrev place : ℕ
-  place = c.loop-waiting.waiting - 1
-
-  top-at :
-      (text : Bytes) (T : Table) → Known span_of text T
-      → Top text T (tokens_of span_of) (roles_of span_of) (first span_of) (end span_of) row read c.loop-waiting.inner span_of.span.i place
-  top-at text T f = top text T _ _ _ _ _ _ _ _ _ _ _ (c.loop-waiting.invariant.0 text T f) (omega arith)
-
-  next-at : (text : Bytes) (T : Table) → Known span_of text T → Next T (items (range text (tokens_of span_of) span_of.span.i (end span_of))) coming
-  next-at text T f =
-      let g = (span_of.span.inv.0 text T f).rest in
-      ⊎_elim
-      (λ w. next_operator text T _ _ (first span_of) _ f.bounded _ _ g w.0 w.1 c.if-arrival-eq0.false)
-      (λ w. next_last text T _ _ (first span_of) _ f.bounded _ _ g w.0 w.1)
-      (comes-at c)
-
-  place-bounds : (first span_of ≤ place) × (place < end span_of) × (right row place < c.loop-waiting.waiting)
-  place-bounds =
-      let k = known span_of in
-      let b = top_bounds _ _ _ _ _ _ _ _ _ _ _ (top-at k.0 k.1 k.2) in
-      (b.0, omega (arith, b.1, span-bounds span_of), omega (arith, b.2))
-
-  place-holds : Within 2 row place
-  place-holds = loop-roots-hold c place place-bounds.1
+next-at :
+    (c : Joined-i-to) (text : Bytes) (T : Table) → InForce text T c.args.tokens.now c.args.roles.now c.args.from c.args.to
+    → (c.if-i-to.arrival ≡ 0 → ⊥) → Next T (items (range text c.args.tokens.now c.span.i c.args.to)) c.if-i-to.arrival
+next-at c text T f n =
+    let g = (c.span.invariant.0 text T f).rest in
+    ⊎_elim
+    (λ w. next_operator text T _ _ c.args.from _ f.bounded _ _ g w.0 w.1 n)
+    (λ w. next_last text T _ _ c.args.from _ f.bounded _ _ g w.0 w.1)
+    (comes-at c)
 
 -- Where none more gives way.
-loop-bounds : (c : AtLoop) → (c.loop-waiting.waiting ≤ 1024) × (c.loop-waiting.operand ≤ 1024)
-loop-bounds c =
-    let a = c in
-    let k = known a in
-    let b = bounds _ _ _ _ _ _ _ _ _ _ _ _ (c.loop-waiting.invariant.0 k.0 k.1 k.2) in
-    (omega (arith, b.2, span-bounds a), omega (arith, b.3, span-bounds a))
-
 stops_at :
-    (c : Stopped)
+    (c : Joined-waiting-eq0)
     → (c.if-waiting-eq0.left ≡ c.loop-waiting.operand)
-    × Stops (roles_of c) c.loop-waiting.roots c.loop-waiting.waiting c.loop-waiting.operand c.if-i-to.arrival
+    × Stops c.args.roles.now c.loop-waiting.roots c.loop-waiting.waiting c.loop-waiting.operand c.if-i-to.arrival
 stops_at c =
-    ⊎_elim
-    (λ w. (w.1, inl w.0.taken))
-    (λ w. (w.6, inr (c.loop-waiting.waiting - 1, omega (arith, w.0.left), rw (← w.2.ensures, ← w.3.ensures) (sym w.4.ensures ∙ not-true _ w.5.taken))))
-    c.if-waiting-eq0.branch
-
--- Behind the last item none waits, or there is no tree.
-none-waits : (c : Else-waiting-ne0) → c.loop-waiting.waiting ≡ 0
-none-waits c = c.if-waiting-ne0.false
-
--- The row outside the span is kept.
-loop-kept : (c : AtLoop) → let a = c in
-    RootsKept a.args.roots.now (first a) (end a) c.loop-waiting.roots
-loop-kept c = let a = c in kept_then _ a.span.roots _ (first a) (end a) a.span.invariant.1 c.loop-waiting.invariant.1
+    elim c.if-waiting-eq0.branch [
+      | then-waiting-eq0 w ↦ (w.left-is, inl w.if-waiting-eq0.true)
+      | else-waiting-eq0+then-not-gives_way w ↦ (
+        w.left-is,
+        inr (
+          c.loop-waiting.waiting - 1,
+          omega (arith, w.if-waiting-eq0.false),
+          rw (← w.left-own.ensures, ← w.role_beside-role.ensures) (sym w.gives_way.ensures ∙ w.if-not-gives_way.true),
+        ),
+      )
+    ]
 
 answers-none :
     (K R : List ℕ) (from to : ℕ) (O O' : List ℕ) (i : ℕ) → ((text : Bytes) (T : Table) → InForce text T K R from to → Halts text T K R from to i)
@@ -219,282 +164,199 @@ answers-none :
 answers-none K R from to O O' i f k =
     record { answer = λ text T g. rw (f text T g) refl; kept = k }
 
--- It gives way: what the search has read of it.
-abbrev Gave : Type 0
-Gave = Else-not-gives_way
-
-abbrev gave-way : Gave → Waiting
-gave-way c = c
-
--- The number of its role.
-abbrev role_at : Waiting → ℕ
-role_at c = role_beside (roles_of (span_of c)) (place c) (left (row c) (place c)) (read c)
-
-module _ (c : Gave) where
-  role-read : c.role_beside-role.result ≡ role_at (gave-way c)
-  role-read = rw (← c.left-own.ensures) c.role_beside-role.ensures
-
-  gives : gives_way_to (role_of (role_at (gave-way c))) (coming (gave-way c)) ≡ true
-  gives = rw (← role-read) (sym c.gives_way_lem.ensures ∙ not-false _ c.if-not-gives_way.false)
+-- The number of the role of the operator at token `t`, where `d` has been read behind it.
+abbrev role_at : List ℕ → List ℕ → ℕ → ℕ → ℕ
+role_at R O t d = role_beside R t (left O t) d
 
 pub span-init : goal.span-init
 span-init c = (λ text T f. begins text T _ _ _ _ _ f, kept_all _ _ _)
 
-pub arrival-arrival-requires : goal.arrival-arrival-requires
-arrival-arrival-requires c = roles-hold c c.span.i c.if-i-to.true
-
-pub set_left-requires : goal.set_left-requires
-set_left-requires c =
-    let e = c in
-    (roots-hold e e.span.i (operand-comes (goal.at.set_left-requires c).Then-arrival-eq0).0, omega arith)
-
-pub set_right-requires : goal.set_right-requires
-set_right-requires c =
-    let l = c in
-    let e = l in
-    let w = roots-hold e e.span.i (operand-comes (goal.at.set_right-requires c).Then-arrival-eq0).0 in
-    ((w.0, omega (arith, w.1, l.set_left.auto.0)), omega arith)
-
-pub overflow_add-operand : goal.overflow_add-operand
-overflow_add-operand c =
-    let a = c in
-    omega (arith, span-bounds a)
-
 pub item_end-i-requires : goal.item_end-i-requires
 item_end-i-requires c =
-    let e = c in
-    let a = e in
-    (tokens-hold a a.span.i (operand-comes (goal.at.item_end-i-requires c).Then-arrival-eq0).0, λ k. tokens-hold a _ ((operand_there (goal.at.item_end-i-requires c).Then-arrival-eq0).closed k))
+    let m = (goal.at.item_end-i-requires c).Joined-i-to in
+    let e = c.if-arrival-eq0.true in
+    (tokens-hold c.requires.0 _ (operand-comes m e).0, λ k. tokens-hold c.requires.0 _ ((operand_there m e).closed k))
 
 pub span-smaller-then-arrival-eq0 : goal.span-smaller-then-arrival-eq0
 span-smaller-then-arrival-eq0 c =
-    let e = operand-left (goal.at.span-smaller-then-arrival-eq0 c).After-item_end-i in
-    omega (arith, c.item_end-i.ensures, (operand_there e).further, (operand-comes e).0)
+    let m = (goal.at.span-smaller-then-arrival-eq0 c).Joined-i-to in
+    let e = c.if-arrival-eq0.true in
+    omega (arith, c.item_end-i.ensures, (operand_there m e).further, (operand-comes m e).0)
 
 pub span-preserved-then-arrival-eq0 : goal.span-preserved-then-arrival-eq0
 span-preserved-then-arrival-eq0 c =
-    let e = operand-left (goal.at.span-preserved-then-arrival-eq0 c).After-item_end-i in
-    let a = e in
-    let h = operand-comes e in
-    let r = c in
-    let l = r in
-    let i = a.span.i in
-    let o = a.span.roots in
-    let o₁ = l.set_left.new.0 in
-    let o₂ = r.set_right.new.0 in
-    let w = roots-hold a i h.0 in
-    let p = l.set_left.ensures in
-    let q = r.set_right.ensures in (
+    let m = (goal.at.span-preserved-then-arrival-eq0 c).Joined-i-to in
+    let h = operand-comes m c.if-arrival-eq0.true in
+    let s = c.span in
+    let b = stands c.requires.0 c.requires.1 s.invariant.0 in
+    let i = s.i in
+    let o = s.roots in
+    let o₁ = c.set_left.new.roots in
+    let o₂ = c.set_right.new.roots in
+    let w = roots-hold c.requires.0 s.invariant.1 i h.0 in
+    let p = c.set_left.ensures in
+    let q = c.set_right.ensures in (
       λ text T f.
-          rw (c.item_end-i.ensures, add-one a.span.i)
-          (takes_operand text T _ _ _ _ o o₂ a.span.waiting a.span.operand 0 a.span.taking i f.bounded
-          (a.span.inv.0 text T f) h.0 h.1 l.if-operand-ne0.false l.if-taking-eq0.false
+          rw (c.item_end-i.ensures, add-one i)
+          (takes_operand text T _ _ _ _ o o₂ s.waiting s.operand 0 s.taking i f.bounded
+          (s.invariant.0 text T f) h.0 h.1 c.if-operand-ne0.false c.if-taking-eq0.false
           (both_left o o₁ o₂ i 0 0 p q w) (both_right o o₁ o₂ i 0 0 p q w) (λ k j y z u. both_other o o₁ o₂ i 0 0 p q w k j y (λ v. omega arith))),
-      kept_then _ o o₂ (first a) (end a) a.span.inv.1 (both_kept o o₁ o₂ i 0 0 p q w (first a) (end a) (span-bounds a).0 h.0),
+      kept_then _ o o₂ c.args.from c.args.to s.invariant.1 (both_kept o o₁ o₂ i 0 0 p q w c.args.from c.args.to b.0 h.0),
     )
 
-pub loop-waiting-init : goal.loop-waiting-init
-loop-waiting-init c = (c.span.invariant.0, kept_all _ _ _)
-
 pub left-own-requires : goal.left-own-requires
-left-own-requires c = place-holds c
+left-own-requires c =
+    let b = place-bounds c.requires.0 c.requires.1 c.loop-waiting.invariant.0 c.if-waiting-eq0.false in
+    roots-hold c.requires.0 (loop-kept c.span.invariant.1 c.loop-waiting.invariant.1) _ b.1
 
 pub role_beside-role-requires : goal.role_beside-role-requires
-role_beside-role-requires c = roles-hold (span_of c) (place c) (place-bounds c).1
+role_beside-role-requires c =
+    let b = place-bounds c.requires.0 c.requires.1 c.loop-waiting.invariant.0 c.if-waiting-eq0.false in
+    roles-hold c.requires.0 _ b.1
 
 pub gives_way-requires : goal.gives_way-requires
 gives_way-requires c =
-    let w = c in
-    let k = known (span_of w) in
-    let r = is_role_lem _ _ _ _ _ _ k.2.bounded _ _ _ _ _ (top-at w k.0 k.1 k.2) in (
-      rw (c.role_beside-role.ensures, c.left-own.ensures) r,
-      next_bound k.1 k.2.bounded _ _ (next-at w k.0 k.1 k.2),
+    let (text, T, f) = c.requires.1 in
+    let t = top text T _ _ _ _ _ _ _ _ _ _ (c.loop-waiting.waiting - 1) (c.loop-waiting.invariant.0 text T f) (omega arith) in
+    let m = (goal.at.gives_way-requires c).Joined-i-to in (
+      rw (c.role_beside-role.ensures, c.left-own.ensures) (is_role_lem text T _ _ _ _ f.bounded _ _ _ _ _ t),
+      next_bound T f.bounded _ _ (next-at m text T f c.if-arrival-eq0.false),
     )
 
 pub right-next-requires : goal.right-next-requires
-right-next-requires c = place-holds (gave-way c)
+right-next-requires c =
+    let b = place-bounds c.requires.0 c.requires.1 c.loop-waiting.invariant.0 c.if-waiting-eq0.false in
+    roots-hold c.requires.0 (loop-kept c.span.invariant.1 c.loop-waiting.invariant.1) _ b.1
 
 pub set_right-requires-in-loop-waiting : goal.set_right-requires-in-loop-waiting
 set_right-requires-in-loop-waiting c =
-    let w = gave-way c in
-    (place-holds w, omega (arith, loop-bounds w))
+    let b = place-bounds c.requires.0 c.requires.1 c.loop-waiting.invariant.0 c.if-waiting-eq0.false in
+    let s = stands c.requires.0 c.requires.1 c.loop-waiting.invariant.0 in
+    (roots-hold c.requires.0 (loop-kept c.span.invariant.1 c.loop-waiting.invariant.1) _ b.1, omega arith)
 
 pub loop-waiting-smaller : goal.loop-waiting-smaller
 loop-waiting-smaller c =
-    let r = c in
-    omega (arith, r.right-next.ensures, (place-bounds (gave-way r)).2)
+    let b = place-bounds c.requires.0 c.requires.1 c.loop-waiting.invariant.0 c.if-waiting-eq0.false in
+    omega (arith, c.right-next.ensures)
 
 pub loop-waiting-preserved : goal.loop-waiting-preserved
 loop-waiting-preserved c =
-    let r = c in
-    let g = r in
-    let w = gave-way g in
-    let p = c.set_right-in-loop-waiting.ensures in (
+    let w = c.loop-waiting in
+    let m = (goal.at.loop-waiting-preserved c).Joined-i-to in
+    let row = w.roots in
+    let place = w.waiting - 1 in
+    let read = w.operand in
+    let b = place-bounds c.requires.0 c.requires.1 w.invariant.0 c.if-waiting-eq0.false in
+    let h = roots-hold c.requires.0 (loop-kept c.span.invariant.1 w.invariant.1) place b.1 in
+    let p = c.set_right-in-loop-waiting.ensures in
+    let role : c.role_beside-role.result ≡ role_at c.args.roles.now row place read = rw (← c.left-own.ensures) c.role_beside-role.ensures in
+    let gives : gives_way_to (role_of (role_at c.args.roles.now row place read)) c.if-i-to.arrival ≡ true =
+    rw (← role) (sym c.gives_way.ensures ∙ c.if-not-gives_way.false) in (
       λ text T f.
-          climbing-as r.right-next.ensures (role-read g)
-          (closes text T _ _ _ _ f.bounded _ _ _ _ _ (top-at w text T f) _ (next-at w text T f) (gives g)
-          w.loop-waiting.waiting (omega arith) _ (right_stored (row w) _ (place w) (read w) p (place-holds w))
-          (left_kept (row w) _ (place w) (read w) p (place-holds w)) (right-other (row w) _ (place w) (read w) p (place-holds w))
-          _ (w.loop-waiting.inv.0 text T f).is_role),
-      kept_then _ _ _ _ _ w.loop-waiting.inv.1 (rw p (kept_store _ _ _ 1 _ _ (omega arith) (place-bounds w).0 (place-bounds w).1)),
+          climbing-as c.right-next.ensures role
+          (closes text T _ _ _ _ f.bounded _ _ _ _ _ (top text T _ _ _ _ _ _ _ _ _ _ place (w.invariant.0 text T f) (omega arith))
+          _ (next-at m text T f c.if-arrival-eq0.false) gives
+          w.waiting (omega arith) _ (right_stored row _ place read p h) (left_kept row _ place read p h) (right-other row _ place read p h)
+          _ (w.invariant.0 text T f).is_role),
+      kept_then _ _ _ _ _ w.invariant.1 (rw p (kept_store _ _ _ 1 _ _ (omega arith) b.0 b.1)),
     )
-
-pub overflow_sub-found : goal.overflow_sub-found
-overflow_sub-found c = omega arith
-
--- An operator comes.
-operator-comes :
-    (c : Else-to-i)
-    → let m = c in let a = m in
-    (m.if-i-to.arrival ≡ arrival (roles_of a) a.span.i)
-operator-comes c =
-    let m = c in
-    ⊎_elim (λ x. x.1) (λ x. absurd (omega (arith, x.0, c.if-to-i.false))) (comes-at m)
 
 pub arrives-requires : goal.arrives-requires
 arrives-requires c =
-    let m = c in
-    let a = m in
-    let (text, T, f) = known a in
-    let x = m.loop-waiting.invariant.0 text T f in
-    let r = are_roles text T _ _ _ _ f.bounded _ _ _ _ _ _ x c.if-to-i.false (λ z. m.if-arrival-eq0.false (operator-comes (goal.at.arrives-requires c).Else-to-i ∙ z)) in
-    (roles-hold a a.span.i c.if-to-i.false, r.0, r.1, r.2, inner_is text T _ _ _ _ f.bounded _ _ _ _ _ _ x, x.is_role)
-
-pub role_beside-taking-requires : goal.role_beside-taking-requires
-role_beside-taking-requires c =
-    let e = c in
-    let a = e in
-    roles-hold a a.span.i e.if-to-i.false
+    let m = (goal.at.arrives-requires c).Joined-i-to in
+    let (text, T, f) = c.requires.1 in
+    let x = c.loop-waiting.invariant.0 text T f in
+    let h = c.if-to-i.false in
+    let r = are_roles text T _ _ _ _ f.bounded _ _ _ _ _ _ x h (λ z. c.if-arrival-eq0.false (operator-comes m h ∙ z)) in
+    (roles-hold c.requires.0 _ h, r.0, r.1, r.2, inner_is text T _ _ _ _ f.bounded _ _ _ _ _ _ x, x.is_role)
 
 pub set_left-requires-else-arrival-eq0 : goal.set_left-requires-else-arrival-eq0
 set_left-requires-else-arrival-eq0 c =
-    let e = c in
-    let j = e in
-    (loop-roots-hold j _ e.if-to-i.false, omega (arith, (stops_at j).0, loop-bounds j))
-
-pub set_right-requires-else-arrival-eq0 : goal.set_right-requires-else-arrival-eq0
-set_right-requires-else-arrival-eq0 c =
-    let l = c in
-    let e = l in
-    let j = e in
-    let w = loop-roots-hold j _ e.if-to-i.false in
-    ((w.0, omega (arith, w.1, l.set_left-else-arrival-eq0.auto.0)), omega (arith, loop-bounds j))
-
-pub overflow_add-i : goal.overflow_add-i
-overflow_add-i c =
-    let e = c in
-    omega (arith, e.if-to-i.false, span-bounds e)
-
-pub span-smaller : goal.span-smaller
-span-smaller c =
-    let e = c in
-    omega (arith, e.if-to-i.false)
+    let j = (goal.at.set_left-requires-else-arrival-eq0 c).Joined-waiting-eq0 in
+    let s = stands c.requires.0 c.requires.1 c.loop-waiting.invariant.0 in
+    (roots-hold c.requires.0 (loop-kept c.span.invariant.1 c.loop-waiting.invariant.1) _ c.if-to-i.false, omega (arith, (stops_at j).0))
 
 pub span-preserved : goal.span-preserved
 span-preserved c =
-    let r = c in
-    let l = r in
-    let b = l in
-    let y = b in
-    let e = y in
-    let m = e in
-    let a = m in
-    let i = a.span.i in
-    let o = m.loop-waiting.roots in
-    let o₁ = l.set_left-else-arrival-eq0.new.0 in
-    let o₂ = r.set_right-else-arrival-eq0.new.0 in
-    let w = loop-roots-hold m i e.if-to-i.false in
-    let p = l.set_left-else-arrival-eq0.ensures in
-    let q = r.set_right-else-arrival-eq0.ensures in
-    let s = stops_at e in
-    let t = rw s.0 at (sym y.arrives.ensures ∙ not-false _ b.if-not-arrives.false) in (
+    let j = (goal.at.span-preserved c).Joined-waiting-eq0 in
+    let m = (goal.at.span-preserved c).Joined-i-to in
+    let w = c.loop-waiting in
+    let i = c.span.i in
+    let o = w.roots in
+    let o₁ = c.set_left-else-arrival-eq0.new.roots in
+    let o₂ = c.set_right-else-arrival-eq0.new.roots in
+    let h = c.if-to-i.false in
+    let k = loop-kept c.span.invariant.1 w.invariant.1 in
+    let u = roots-hold c.requires.0 k i h in
+    let p = c.set_left-else-arrival-eq0.ensures in
+    let q = c.set_right-else-arrival-eq0.ensures in
+    let s = stops_at j in
+    let b = stands c.requires.0 c.requires.1 c.span.invariant.0 in
+    let t = rw s.0 at (sym c.arrives.ensures ∙ c.if-not-arrives.false) in (
       λ text T f.
-          rw (add-one i, b.role_beside-taking.ensures, s.0)
-          (waits text T _ _ _ _ f.bounded o m.loop-waiting.waiting m.loop-waiting.operand m.loop-waiting.inner a.span.taking i (m.loop-waiting.invariant.0 text T f) _ s.1
-          e.if-to-i.false (operator-comes (goal.at.span-preserved c).Else-to-i) m.if-arrival-eq0.false t o₂ (both_left o o₁ o₂ i _ _ p q w ∙ s.0) (both_right o o₁ o₂ i _ _ p q w)
-          (λ k j y z u. both_other o o₁ o₂ i _ _ p q w k j y (λ v. omega arith))),
-      kept_then _ o o₂ (first a) (end a) (loop-kept m) (both_kept o o₁ o₂ i _ _ p q w (first a) (end a) (span-bounds a).0 e.if-to-i.false),
+          rw (add-one i, c.role_beside-taking.ensures, s.0)
+          (waits text T _ _ _ _ f.bounded o w.waiting w.operand w.inner c.span.taking i (w.invariant.0 text T f) _ s.1
+          h (operator-comes m h) c.if-arrival-eq0.false t o₂ (both_left o o₁ o₂ i _ _ p q u ∙ s.0) (both_right o o₁ o₂ i _ _ p q u)
+          (λ n j y z v. both_other o o₁ o₂ i _ _ p q u n j y (λ e. omega arith))),
+      kept_then _ o o₂ c.args.from c.args.to k (both_kept o o₁ o₂ i _ _ p q u c.args.from c.args.to b.0 h),
     )
-
-pub shape_of-roots-then-operand-ne0 : goal.shape_of-roots-then-operand-ne0
-shape_of-roots-then-operand-ne0 c = c.span.invariant.1.long
 
 pub returns-then-operand-ne0 : goal.returns-then-operand-ne0
 returns-then-operand-ne0 c =
-    let e = c in
-    let a = e in
-    let h = operand-comes (goal.at.returns-then-operand-ne0 c).Then-arrival-eq0 in
-    answers-none _ _ _ _ _ _ _ (λ text T f. refuses text T _ _ _ _ _ _ _ _ _ _ (a.span.invariant.0 text T f) h.0 h.1 c.if-operand-ne0.true) a.span.invariant.1
-
-pub shape_of-roots-then-taking-eq0 : goal.shape_of-roots-then-taking-eq0
-shape_of-roots-then-taking-eq0 c = c.span.invariant.1.long
+    let h = operand-comes (goal.at.returns-then-operand-ne0 c).Joined-i-to c.if-arrival-eq0.true in
+    answers-none _ _ _ _ _ _ _
+    (λ text T f. refuses text T _ _ _ _ _ _ _ _ _ _ (c.span.invariant.0 text T f) h.0 h.1 c.if-operand-ne0.true)
+    c.span.invariant.1
 
 pub returns-then-taking-eq0 : goal.returns-then-taking-eq0
 returns-then-taking-eq0 c =
-    let e = c in
-    let a = e in
-    let h = operand-comes (goal.at.returns-then-taking-eq0 c).Then-arrival-eq0 in
+    let h = operand-comes (goal.at.returns-then-taking-eq0 c).Joined-i-to c.if-arrival-eq0.true in
     answers-none _ _ _ _ _ _ _
     (λ text T f.
-    untaken_here text T _ _ _ _ _ _ _ _ _ _ f.bounded (a.span.invariant.0 text T f) h.0 h.1 c.if-operand-ne0.false c.if-taking-eq0.true)
-    a.span.invariant.1
-
-pub shape_of-roots-then-waiting-ne0 : goal.shape_of-roots-then-waiting-ne0
-shape_of-roots-then-waiting-ne0 c = (loop-kept c).long
+    untaken_here text T _ _ _ _ _ _ _ _ _ _ f.bounded (c.span.invariant.0 text T f) h.0 h.1 c.if-operand-ne0.false c.if-taking-eq0.true)
+    c.span.invariant.1
 
 pub returns-then-waiting-ne0 : goal.returns-then-waiting-ne0
 returns-then-waiting-ne0 c =
-    let j = c in
-    let m = j in
-    let l = c.if-to-i.true in
-    let v = ⊎_elim (λ x. absurd (omega (arith, x.0, l))) (λ x. x.1) (comes-at m) in
+    let j = (goal.at.returns-then-waiting-ne0 c).Joined-waiting-eq0 in
+    let h = c.if-to-i.true in
+    let v = end-comes (goal.at.returns-then-waiting-ne0 c).Joined-i-to h in
     answers-none _ _ _ _ _ _ _
     (λ text T f.
     ⊎_elim
     (λ z. absurd (c.if-waiting-ne0.true z))
-    (λ z. left_over text T _ _ _ _ f.bounded _ _ _ _ _ (top text T _ _ _ _ _ _ _ _ _ _ _ (m.loop-waiting.invariant.0 text T f) z.1) l (rw v at z.2))
+    (λ z.
+    left_over text T _ _ _ _ f.bounded _ _ _ _ _ (top text T _ _ _ _ _ _ _ _ _ _ _ (c.loop-waiting.invariant.0 text T f) z.1) h (rw v at z.2))
     (stops_at j).1)
-    (loop-kept m)
-
-pub shape_of-roots-then-left-eq0 : goal.shape_of-roots-then-left-eq0
-shape_of-roots-then-left-eq0 c = (loop-kept c).long
+    (loop-kept c.span.invariant.1 c.loop-waiting.invariant.1)
 
 pub returns-then-left-eq0 : goal.returns-then-left-eq0
 returns-then-left-eq0 c =
-    let t = c in
-    let m = t in
+    let j = (goal.at.returns-then-left-eq0 c).Joined-waiting-eq0 in
     answers-none _ _ _ _ _ _ _
     (λ text T f.
-    nothing_read text T _ _ _ _ f.bounded _ _ _ _ _ _ (m.loop-waiting.invariant.0 text T f) t.if-to-i.true (none-waits (goal.at.returns-then-left-eq0 c).Else-waiting-ne0)
-    (sym (stops_at t).0 ∙ c.if-left-eq0.true))
-    (loop-kept m)
-
-pub shape_of-roots-else-left-eq0 : goal.shape_of-roots-else-left-eq0
-shape_of-roots-else-left-eq0 c = (loop-kept c).long
+    nothing_read text T _ _ _ _ f.bounded _ _ _ _ _ _ (c.loop-waiting.invariant.0 text T f) c.if-to-i.true c.if-waiting-ne0.false
+    (sym (stops_at j).0 ∙ c.if-left-eq0.true))
+    (loop-kept c.span.invariant.1 c.loop-waiting.invariant.1)
 
 pub returns-else-left-eq0 : goal.returns-else-left-eq0
 returns-else-left-eq0 c =
-    let t = c in
-    let m = t in
+    let j = (goal.at.returns-else-left-eq0 c).Joined-waiting-eq0 in
     record {
       answer =
           λ text T f.
-          ends text T _ _ _ _ f.bounded _ _ _ _ _ _ (m.loop-waiting.invariant.0 text T f) t.if-to-i.true (none-waits (goal.at.returns-else-left-eq0 c).Else-waiting-ne0) _
-          (omega (arith, (stops_at t).0, c.if-left-eq0.false));
-      kept = loop-kept m;
+          ends text T _ _ _ _ f.bounded _ _ _ _ _ _ (c.loop-waiting.invariant.0 text T f) c.if-to-i.true c.if-waiting-ne0.false _
+          (omega (arith, (stops_at j).0, c.if-left-eq0.false));
+      kept = loop-kept c.span.invariant.1 c.loop-waiting.invariant.1;
     }
-
-pub shape_of-roots-then-not-arrives : goal.shape_of-roots-then-not-arrives
-shape_of-roots-then-not-arrives c = (loop-kept c).long
 
 pub returns-then-not-arrives : goal.returns-then-not-arrives
 returns-then-not-arrives c =
-    let y = c in
-    let e = y in
-    let m = e in
-    let s = stops_at e in
-    let t = rw s.0 at (sym y.arrives.ensures ∙ not-true _ c.if-not-arrives.true) in
+    let s = stops_at (goal.at.returns-then-not-arrives c).Joined-waiting-eq0 in
+    let m = (goal.at.returns-then-not-arrives c).Joined-i-to in
+    let h = c.if-to-i.false in
+    let t = rw s.0 at (sym c.arrives.ensures ∙ c.if-not-arrives.true) in
     answers-none _ _ _ _ _ _ _
     (λ text T f.
-    refused_here text T _ _ _ _ f.bounded _ _ _ _ _ _ (m.loop-waiting.invariant.0 text T f) _ s.1 e.if-to-i.false (operator-comes (goal.at.returns-then-not-arrives c).Else-to-i) m.if-arrival-eq0.false t)
-    (loop-kept m)
+    refused_here text T _ _ _ _ f.bounded _ _ _ _ _ _ (c.loop-waiting.invariant.0 text T f) _ s.1 h (operator-comes m h) c.if-arrival-eq0.false t)
+    (loop-kept c.span.invariant.1 c.loop-waiting.invariant.1)

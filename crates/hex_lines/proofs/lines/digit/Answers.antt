@@ -1,9 +1,8 @@
--- The value at each interval that the tests leave. Assumes nothing.
+-- The value at each interval that the tests leave.
 use mathlib.Core.Path.{◌≡◌, refl, sym}
 use mathlib.Core.Bool.{false}
 use Prim.Native.Nat.{ℕ, ◌+◌, ◌-◌, ◌≤◌, ◌<◌}
 use native.Mathlib.Omega.{arith}
-use borrow.Author.Rules.{rules}
 use Rattle.hex_lines.specs.Hexadecimal.{between, digit_value}
 use Rattle.hex_lines.proofs.Characters.{inside, below, above}
 use Rattle.hex_lines.proofs.lines.digit.Goals as goal
@@ -28,31 +27,31 @@ small-digit b h g =
     let f : 70 < b = omega arith in
     rw (above 48 57 b e, above 65 70 b f, inside 97 102 b h g, digit_value) (omega arith)
 
-pub returns-then-b-lt48 : goal.returns-then-b-lt48
-returns-then-b-lt48 c =
+pub returns-then-b-lt48-clause-value : goal.returns-then-b-lt48-clause-value
+returns-then-b-lt48-clause-value c =
     let b = c.args.b in
-    (sym (no_digit b (below 48 57 b (omega arith)) (below 65 70 b (omega arith)) (below 97 102 b (omega arith))), search rules)
+    sym (no_digit b (below 48 57 b (omega arith)) (below 65 70 b (omega arith)) (below 97 102 b (omega arith)))
 
-pub returns-then-b-le57 : goal.returns-then-b-le57
-returns-then-b-le57 c = (sym (decimal_digit c.args.b (omega arith) (omega arith)), search rules)
+pub returns-then-b-le57-clause-value : goal.returns-then-b-le57-clause-value
+returns-then-b-le57-clause-value c = sym (decimal_digit c.args.b (omega arith) (omega arith))
 
-pub returns-then-b-lt65 : goal.returns-then-b-lt65
-returns-then-b-lt65 c =
+pub returns-then-b-lt65-clause-value : goal.returns-then-b-lt65-clause-value
+returns-then-b-lt65-clause-value c =
     let b = c.args.b in
-    (sym (no_digit b (above 48 57 b (omega arith)) (below 65 70 b (omega arith)) (below 97 102 b (omega arith))), search rules)
+    sym (no_digit b (above 48 57 b (omega arith)) (below 65 70 b (omega arith)) (below 97 102 b (omega arith)))
 
-pub returns-then-b-le70 : goal.returns-then-b-le70
-returns-then-b-le70 c = (sym (capital-digit c.args.b (omega arith) (omega arith)), search rules)
+pub returns-then-b-le70-clause-value : goal.returns-then-b-le70-clause-value
+returns-then-b-le70-clause-value c = sym (capital-digit c.args.b (omega arith) (omega arith))
 
-pub returns-then-b-lt97 : goal.returns-then-b-lt97
-returns-then-b-lt97 c =
+pub returns-then-b-lt97-clause-value : goal.returns-then-b-lt97-clause-value
+returns-then-b-lt97-clause-value c =
     let b = c.args.b in
-    (sym (no_digit b (above 48 57 b (omega arith)) (above 65 70 b (omega arith)) (below 97 102 b (omega arith))), search rules)
+    sym (no_digit b (above 48 57 b (omega arith)) (above 65 70 b (omega arith)) (below 97 102 b (omega arith)))
 
-pub returns-then-b-le102 : goal.returns-then-b-le102
-returns-then-b-le102 c = (sym (small-digit c.args.b (omega arith) (omega arith)), search rules)
+pub returns-then-b-le102-clause-value : goal.returns-then-b-le102-clause-value
+returns-then-b-le102-clause-value c = sym (small-digit c.args.b (omega arith) (omega arith))
 
-pub returns : goal.returns
-returns c =
+pub returns-clause-value : goal.returns-clause-value
+returns-clause-value c =
     let b = c.args.b in
-    (sym (no_digit b (above 48 57 b (omega arith)) (above 65 70 b (omega arith)) (above 97 102 b (omega arith))), search rules)
+    sym (no_digit b (above 48 57 b (omega arith)) (above 65 70 b (omega arith)) (above 97 102 b (omega arith)))

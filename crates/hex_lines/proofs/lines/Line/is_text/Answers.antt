@@ -1,4 +1,4 @@
--- The two tests of the definition. Assumes nothing.
+-- The two tests of the definition.
 use mathlib.Core.Path.{refl}
 use Rattle.hex_lines.specs.Hexadecimal.{is_text}
 use Rattle.hex_lines.proofs.lines.Line.is_text.Goals as goal

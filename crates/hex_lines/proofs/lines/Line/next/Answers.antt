@@ -1,4 +1,4 @@
--- Each branch is a case of the definitions. Assumes nothing.
+-- Each branch is a case of the definitions.
 use native.Mathlib.Omega.{arith}
 use borrow.Author.Rules.{rules}
 use lib.ListN.{length-set}
@@ -9,36 +9,30 @@ pub returns-then-low-eq16 : goal.returns-then-low-eq16
 returns-then-low-eq16 c =
     let a = c.args in
     let d = c.digit-low in
-    let h = no-digit-after a.text.now a.self a.b d.result d.ensures.0 c.if-low-eq16.true in
-    (h.0, (h.1, search rules))
+    let h = no-digit-after a.text.now a.self a.b d.result d.ensures.value c.if-low-eq16.true in
+    record { value = h.0; text_after = h.1; sound = search rules }
 
 pub returns-then-high-eq16 : goal.returns-then-high-eq16
 returns-then-high-eq16 c =
     let a = c.args in
     let d = c.digit-low in
-    let h = first-after a.text.now a.self a.b d.result d.ensures.0 c.if-low-eq16.false c.if-high-eq16.true in
-    (h.0, (h.1, search rules))
-
-pub overflow_add-text : goal.overflow_add-text
-overflow_add-text c = omega (arith, c.digit-low.ensures.1)
+    let h = first-after a.text.now a.self a.b d.result d.ensures.value c.if-low-eq16.false c.if-high-eq16.true in
+    record { value = h.0; text_after = h.1; sound = search rules }
 
 pub returns-then-kept-text : goal.returns-then-kept-text
 returns-then-kept-text c =
     let a = c.args in
     let d = c.digit-low in
-    let e = c in
     let h =
-    second-after a.text.now a.self a.b d.result d.ensures.0 e.if-low-eq16.false e.if-high-eq16.false c.if-kept-text.true
+    second-after a.text.now a.self a.b d.result d.ensures.value c.if-low-eq16.false c.if-high-eq16.false c.if-kept-text.true
     in
-    (h.0, (h.1, record { room = simp length-set (omega arith); digit = omega arith }))
+    record { value = h.0; text_after = h.1; sound = record { room = simp length-set (omega arith); digit = omega arith } }
 
 pub returns : goal.returns
 returns c =
     let a = c.args in
     let d = c.digit-low in
-    let p = c.requires in
-    let e = c in
     let h =
-    full_after a.text.now a.self a.b d.result d.ensures.0 e.if-low-eq16.false e.if-high-eq16.false p.room c.if-kept-text.false
+    full_after a.text.now a.self a.b d.result d.ensures.value c.if-low-eq16.false c.if-high-eq16.false c.requires.room c.if-kept-text.false
     in
-    (h.0, (h.1, search rules))
+    record { value = h.0; text_after = h.1; sound = search rules }
