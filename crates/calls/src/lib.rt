@@ -1,5 +1,7 @@
 // A line of input as a call of a service, taken character by character: the name of the service, a space, and a text in hexadecimal, an empty one
 // as `-`. The characters of the name stand at the front of the text's buffer until the space behind them.
+#![tactic(auto)]
+
 ghost use Rattle.std.specs.Prelude.{◌≡◌, ◌≤◌, length};
 ghost use Rattle.calls.specs.Calls.{fresh, begun_by, named, name_after, name_text_after, after, text_after, requested, Sound};
 

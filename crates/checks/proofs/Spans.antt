@@ -7,7 +7,7 @@ use Prim.Native.Nat.{ℕ, suc, ◌≤◌, ◌<◌}
 use native.Mathlib.Omega.{arith}
 use lib.ListN.{length}
 use Rattle.grammar.specs.Bytes.{Bytes}
-use Rattle.grammar.specs.Outcome.{refused, passed, placed}
+use Rattle.grammar.specs.Outcome.{refused, passed}
 use Rattle.grammar.specs.Scan.{Placed}
 use Rattle.grammar.specs.Declaration.{start_table}
 use Rattle.grammar.specs.Tree.{Tree}
@@ -164,7 +164,9 @@ module _ {text : Bytes} {K R O : List ℕ} {n : ℕ} {nested : Bool} (v : Classi
                 stored = v.matched.scanned.stored;
                 tokens = subst (λ j. Holds 4 K j) v.matched.scanned.counted v.matched.scanned.tokens;
                 roles = subst (λ j. Holds 4 R j) v.matched.scanned.counted v.matched.scanned.roles;
-                roots = subst (λ j. Holds 2 O' j) v.matched.scanned.counted (v.matched.scanned.roots.0, omega (arith, v.matched.scanned.roots.1, h.long));
+                roots =
+                    subst (λ j. Holds 2 O' j) v.matched.scanned.counted
+                    (v.matched.scanned.roots.0, omega (arith, v.matched.scanned.roots.1, h.long));
                 agrees = subst (λ j. Agrees text K R start_table 0 j) v.matched.scanned.counted v.agrees;
                 is_tree = checked_tree (is_tree_lem some_tree (reading_of_tokens text (record { tokens = ps; tree = t }) reads).1);
                 rooted = c.1;

@@ -24,7 +24,8 @@ use Rattle.grammar.proofs.RefusalPlaces.{nesting_place, blocks_place}
 use Rattle.rows.specs.Fields.{kind, start, first_byte, Holds}
 use Rattle.rows.specs.Tokens.{range, token_in, IsAtomKind, Unblocked, Stored}
 use Rattle.rows.proofs.TokenBytes.{token_bytes}
-use Rattle.rows.proofs.Stored.{stored_few, stored_end, stored_tokens, stored_valid, stored_quoted, stored_apart, stored_kinds, stored_kept, stored_byte}
+use Rattle.rows.proofs.Stored.{stored_few, stored_end, stored_tokens, stored_valid, stored_quoted, stored_apart}
+use Rattle.rows.proofs.Stored.{stored_kinds, stored_kept, stored_byte}
 use Rattle.scanner.specs.Scanning.{Scans}
 use Rattle.scanner.specs.declared.scan.Scanned.{Scanned}
 use Rattle.scanner.specs.declared.scan.Scanned.TheVariants as Scan
@@ -34,7 +35,7 @@ use Rattle.pairing.specs.declared.Paired.TheVariants as Pair
 use Rattle.pairing.proofs.TokenKinds.{nesting_by_kinds}
 use Rattle.pairing.proofs.Atoms.{paired_atoms}
 use Rattle.pairing.proofs.Blocks.{no_block}
-use Rattle.resolving.specs.Resolving.{Ranged, Resolves, Resolving}
+use Rattle.resolving.specs.Resolving.{Resolves, Resolving}
 use Rattle.resolving.specs.declared.Resolved.{Resolved}
 use Rattle.resolving.specs.declared.Resolved.TheVariants as Resolve
 use Rattle.checks.specs.declared.Checked.TheVariants.{Blank, Refused}
@@ -185,7 +186,7 @@ module _ {text : Bytes} {K R O : List ℕ} {n : ℕ} (t : Tokenized text K R O n
 
   module _ (K' : List ℕ) (r : Paired) (h : Pairing K n K' r) where
     -- The row with closers has the same tokens.
-    pub still_tokens : Tokenized text K' R O n
+    still_tokens : Tokenized text K' R O n
     still_tokens =
         record {
           short = t.short;
@@ -240,18 +241,6 @@ module _ {text : Bytes} {K R O : List ℕ} {n : ℕ} {nested : Bool} (m : Matche
 
   pub own_tokens : range text K 0 n ≡ tokens_of own
   own_tokens = ap (λ j. range text K 0 j) m.scanned.counted ∙ stored_tokens m.scanned.stored
-
-  pub ranged : Ranged text K R 0 n
-  ranged =
-      record {
-        placed = own;
-        stored = m.scanned.stored;
-        short = m.scanned.short;
-        within = omega (arith, m.scanned.counted);
-        tokens = rw (← m.scanned.counted) m.scanned.tokens;
-        roles = rw (← m.scanned.counted) m.scanned.roles;
-        paired = m.paired;
-      }
 
   abbrev blocks : Outcome (Unit {0})
   blocks = check_blocks (suc n) start_table 0 (tokens_of own)

@@ -1,4 +1,6 @@
 // Refusals 2 to 11 and 17 in their order, over lent rows.
+#![tactic(auto)]
+
 ghost use Rattle.std.specs.Prelude.{◌≡◌, false, List, ℕ};
 ghost use Rattle.rows.specs.Tokens.{Unblocked};
 ghost use Rattle.checks.specs.Checking.{Checkable, Tokenized, Matched, Classified, offset_in, Checking};

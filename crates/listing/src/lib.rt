@@ -1,13 +1,16 @@
 // Prints what both services give, in document 01's format: the answer, a line for each node, then the canonical text.
-ghost use Rattle.std.specs.Prelude.{[], ◌∷◌, ◌+◌, ◌*◌, ◌≤◌, ◌<◌, length, drop, get_or};
+#![tactic(auto)]
+
+ghost use Rattle.std.specs.Prelude.{◌≡◌, [], ◌∷◌, ◌+◌, ◌*◌, ◌≤◌, ◌<◌, length, drop, get_or};
 ghost use Rattle.grammar.specs.Nodes.{words_per_node};
 ghost use Rattle.grammar.specs.Listing.{field, kind_names, node_lines};
 ghost use Rattle.byte_strings.specs.Puts.{Put};
 ghost use Rattle.listing.specs.Lines.{spelled, refusal_text, answer_text, outcome_text, line_size, most_nodes};
 
-use libc::STDOUT_FILENO;
 use nodes::node;
 use reader::Answer;
+use std::io;
+use std::io::Write;
 
 // The bytes of a line, more than any has; the nodes of a table, enough for every text; and its words.
 const LINE: usize = 160;
@@ -24,6 +27,22 @@ fn put(line: &mut [u8; LINE], n: usize, part: &[u8]) -> usize
     byte_strings::put(line, n, part)
 }
 
+// Writes a number in decimal to the end of `digits`, and answers where it begins.
+fn decimal(v: u64, digits: &mut [u8; 20]) -> usize
+    ensures start { result < 20 }
+    ensures spelled { drop result digits.new ≡ spelled v }
+{
+    let mut i: usize = 19;
+    let mut rest = v;
+    while rest >= 10 {
+        digits[i] = b'0' + (rest % 10) as u8;
+        rest /= 10;
+        i -= 1;
+    }
+    digits[i] = b'0' + rest as u8;
+    i
+}
+
 // Puts a number, of at most 20 digits, into a line.
 fn put_number(line: &mut [u8; LINE], n: usize, v: u64) -> usize
     requires { n + 20 ≤ line_size }
@@ -31,8 +50,8 @@ fn put_number(line: &mut [u8; LINE], n: usize, v: u64) -> usize
     ensures upper_bound { result ≤ n + 20 }
 {
     let mut digits = [0u8; 20];
-    let k = io::decimal(v, &mut digits);
-    put(line, n, &digits[..k])
+    let start = decimal(v, &mut digits);
+    put(line, n, &digits[start..])
 }
 
 // Puts a number with a space before it into a line.
@@ -119,82 +138,83 @@ fn put_node(line: &mut [u8; LINE], nodes: &[u32; TABLE], i: usize) -> usize
 }
 
 // Writes an answer, with no line end.
-pub fn print_answer(word: &[u8], a: Answer)
+pub fn print_answer<W: Write>(out: &mut W, word: &[u8], a: Answer) -> io::Result<()>
     requires { length word.now ≤ 4 }
 {
     let mut line = [0u8; LINE];
     let n = put_answer(&mut line, word, a);
-    io::write_all(STDOUT_FILENO, &line[..n]);
+    out.write_all(&line[..n])
 }
 
 // Writes the first `n` bytes of a line, and a line end.
-fn print_line(mut line: [u8; LINE], n: usize)
+fn print_line<W: Write>(out: &mut W, mut line: [u8; LINE], n: usize) -> io::Result<()>
     requires { n < line_size }
 {
     let m = put(&mut line, n, b"\n");
-    io::write_all(STDOUT_FILENO, &line[..m]);
+    out.write_all(&line[..m])
 }
 
 // Writes an answer and a line end.
-fn print_answer_line(word: &[u8], a: Answer)
+fn print_answer_line<W: Write>(out: &mut W, word: &[u8], a: Answer) -> io::Result<()>
     requires { length word.now ≤ 4 }
 {
     let mut line = [0u8; LINE];
     let n = put_answer(&mut line, word, a);
-    print_line(line, n);
+    print_line(out, line, n)
 }
 
 // Writes the answer of a service that counts nothing, and a line end.
-pub fn print_outcome(word: &[u8], a: Answer)
+pub fn print_outcome<W: Write>(out: &mut W, word: &[u8], a: Answer) -> io::Result<()>
     requires { length word.now ≤ 4 }
 {
     let mut line = [0u8; LINE];
     let n = put_outcome(&mut line, word, a);
-    print_line(line, n);
+    print_line(out, line, n)
 }
 
 // Writes the line of node number `i`.
-fn print_node(nodes: &[u32; TABLE], i: usize)
+fn print_node<W: Write>(out: &mut W, nodes: &[u32; TABLE], i: usize) -> io::Result<()>
     requires { i < most_nodes }
 {
     let mut line = [0u8; LINE];
     let n = put_node(&mut line, nodes, i);
-    io::write_all(STDOUT_FILENO, &line[..n]);
+    out.write_all(&line[..n])
 }
 
 // Writes the lines of the first `count` nodes.
-fn print_nodes(nodes: &[u32; TABLE], count: usize)
+fn print_nodes<W: Write>(out: &mut W, nodes: &[u32; TABLE], count: usize) -> io::Result<()>
     requires { count ≤ most_nodes }
 {
     let mut i: usize = 0;
     while i < count {
-        print_node(nodes, i);
+        print_node(out, nodes, i)?;
         i += 1;
     }
+    Ok(())
 }
 
 // Canonicalizes a text into 16,384 bytes, the most that canonical text may have, and prints its length and bytes, or the refusal.
-fn print_canonical(text: &[u8]) {
+fn print_canonical<W: Write>(out: &mut W, text: &[u8]) -> io::Result<()> {
     let mut buffer = [0u8; 16384];
     let a = reader::canonicalize(text, &mut buffer);
-    print_answer_line(b"tidy", a);
+    print_answer_line(out, b"tidy", a)?;
     if a.number != 0 {
-        return;
+        return Ok(());
     }
     let n = a.count;
-    io::write_all(STDOUT_FILENO, &buffer[..n]);
-    io::write_all(STDOUT_FILENO, b"\n");
+    out.write_all(&buffer[..n])?;
+    out.write_all(b"\n")
 }
 
 // Reads a text into a table and prints its listing: the answer, the nodes and the
 // canonical text.
-pub fn print_listing(text: &[u8]) {
+pub fn print_listing<W: Write>(out: &mut W, text: &[u8]) -> io::Result<()> {
     let mut nodes = [0u32; TABLE];
     let a = reader::read(text, &mut nodes);
-    print_answer_line(b"read", a);
+    print_answer_line(out, b"read", a)?;
     if a.number != 0 {
-        return;
+        return Ok(());
     }
-    print_nodes(&nodes, a.count);
-    print_canonical(text);
+    print_nodes(out, &nodes, a.count)?;
+    print_canonical(out, text)
 }

@@ -1,5 +1,4 @@
--- The test of the definition. Assumes nothing.
-use borrow.Author.Rules.{rules}
+-- The test of the definition.
 use mathlib.Core.Path.{sym, ◌∙◌}
 use Rattle.calls.proofs.Steps.{named-locate, unnamed}
 use Rattle.calls.proofs.behind_name.Goals as goal

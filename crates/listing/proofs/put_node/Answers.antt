@@ -1,10 +1,9 @@
--- The fields of a node, one behind the other, are the line of the definition. Assumes nothing.
+-- The fields of a node, one behind the other, are the line of the definition.
 use mathlib.Core.Path.{◌≡◌, refl}
 use mathlib.Core.List.{List, [], ◌∷◌, ◌++◌, append-nil}
 use Prim.Native.Nat.{ℕ, ◌+◌, ◌*◌, ◌^◌, ◌<◌}
 use native.Mathlib.Nat.{add-zero}
 use native.Mathlib.Omega.{arith}
-use borrow.Author.Rules.{rules}
 use lib.ListN.{drop, get_or}
 use lib.Seq.{get_or-drop}
 use Rattle.grammar.specs.Nodes.{words_per_node}
@@ -16,7 +15,8 @@ use Rattle.listing.proofs.put_node.Goals as goal
 
 node-line
     : (i : ℕ) (words : List ℕ) → i < most_nodes
-    → spelled i ++ 32 ∷ get_or kind_names (get_or words (i * words_per_node) 0) [] ++ field (get_or words (i * words_per_node + 1) 0) ++ field (get_or words (i * words_per_node + 2) 0)
+    → spelled i ++ 32 ∷ get_or kind_names (get_or words (i * words_per_node) 0) []
+    ++ field (get_or words (i * words_per_node + 1) 0) ++ field (get_or words (i * words_per_node + 2) 0)
     ++ field (get_or words (i * words_per_node + 3) 0) ++ field (get_or words (i * words_per_node + 4) 0)
     ++ field (get_or words (i * words_per_node + 5) 0) ++ 10 ∷ []
     ≡ node_lines 1 i (drop (i * words_per_node) words)
@@ -35,20 +35,12 @@ node-line i words h =
       append-nil,
     ) refl
 
-pub returns : goal.returns
-returns c =
-    let f₅ = c in
-    let f₄ = f₅ in
-    let f₃ = f₄ in
-    let f₂ = f₃ in
-    let f₁ = f₂ in
-    let k = f₁ in
-    let n = k in
-    let s = n in
-    let p₀ = put_then n.put_number-n.ensures.0 k.put_kind-n.ensures.0 in
-    let p₁ = put_then p₀ f₁.put_field-n.ensures.0 in
-    let p₂ = put_then p₁ f₂.put_field-n-2.ensures.0 in
-    let p₃ = put_then p₂ f₃.put_field-n-3.ensures.0 in
-    let p₄ = put_then p₃ f₄.put_field-n-4.ensures.0 in
-    let p₅ = put_then p₄ f₅.put_field-n-5.ensures.0 in
-    (put_same (node-line s.args.i s.args.nodes.now s.requires) (put_then p₅ c.put.ensures), search rules)
+pub returns-clause-put : goal.returns-clause-put
+returns-clause-put c =
+    let p₀ = put_then c.put_number-n.ensures.put c.put_kind-n.ensures.put in
+    let p₁ = put_then p₀ c.put_field-n.ensures.put in
+    let p₂ = put_then p₁ c.put_field-n-2.ensures.put in
+    let p₃ = put_then p₂ c.put_field-n-3.ensures.put in
+    let p₄ = put_then p₃ c.put_field-n-4.ensures.put in
+    let p₅ = put_then p₄ c.put_field-n-5.ensures.put in
+    put_same (node-line c.args.i c.args.nodes.now c.requires) (put_then p₅ c.put.ensures)
