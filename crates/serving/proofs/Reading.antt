@@ -13,7 +13,7 @@ use Rattle.grammar.specs.Outcome.{Outcome, refused, passed, and_then}
 use Rattle.grammar.specs.Operator.{Table}
 use Rattle.grammar.specs.Declaration.{start_table, declare_all, all_tokens}
 use Rattle.grammar.specs.Tree.{Tree, nothing, leaf, bracket, block, node, flat}
-use Rattle.grammar.specs.Nodes.{count, words, words_per_node}
+use Rattle.grammar.specs.Nodes.{count, words_per_node}
 use Rattle.grammar.specs.Scan.{Placed, scan}
 use Rattle.grammar.specs.Blank.{blank_rule}
 use Rattle.grammar.specs.Answer as G
@@ -74,7 +74,9 @@ module _ (text : Bytes) (K R O : List ℕ) (c : Checked) (h : Checking text K R 
   unfolding refusal_of
   refused_reads m p e = go (read_text text) refl h
     where
-      told : (x q : ℕ) → read_text text ≡ refused x q → (b : Bool) → eqb x 11 ≡ b → c ≡ refusal_of text x q → (read_text text ≡ refused m p) × (eqb m 11 ≡ false)
+      told :
+          (x q : ℕ) → read_text text ≡ refused x q → (b : Bool) → eqb x 11 ≡ b → c ≡ refusal_of text x q
+          → (read_text text ≡ refused m p) × (eqb m 11 ≡ false)
       told x q f true t g = let z : NoTree q _ ≡ Refused m p = sym (rw (t, refusal_of) at g) ∙ e in impossible cc
       told x q f false t g =
           let z : Refused x q ≡ Refused m p = sym (rw (t, refusal_of) at g) ∙ e in

@@ -1,4 +1,6 @@
 // The front of all services: check 1, rows of the text's length, checks 2 to 11 and 17, and then what is asked for.
+#![tactic(auto)]
+
 ghost use Rattle.std.specs.Prelude.{◌≡◌, List, ℕ};
 ghost use Rattle.checks.specs.Checking.{Checkable};
 ghost use Rattle.serving.specs.Serving.{refused_with, written, treeless_place, Reads, Canonicalizes, Serves};

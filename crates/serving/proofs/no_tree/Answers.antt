@@ -1,7 +1,6 @@
 -- The place of refusal 11 for each service.
 use mathlib.Core.Path.{◌≡◌}
 use Prim.Native.Nat.{ℕ}
-use borrow.Author.Rules.{rules}
 use Rattle.serving.specs.declared.Served.{Served}
 use Rattle.serving.specs.declared.Service.{Service}
 use Rattle.serving.specs.declared.Service.TheVariants.{Read, Canonicalize, Locate}

@@ -1,6 +1,5 @@
 -- Rows of three sizes are lent, by the text's length.
 use Rattle.serving.proofs.Serving.{serves_long}
-use borrow.Author.Rules.{rules}
 use Rattle.serving.proofs.serve.Goals as goal
 
 pub returns-then-text-gt-MAX_BYTES : goal.returns-then-text-gt-MAX_BYTES

@@ -1,7 +1,6 @@
 -- The builder writes the words of the tree, if the table has room for them.
 use native.Mathlib.Omega.{arith}
 use Rattle.serving.proofs.Reading.{nodes_few, reads_short, buildable, reads_words}
-use borrow.Author.Rules.{rules}
 use Rattle.serving.proofs.write_nodes.Goals as goal
 
 pub overflow_mul-k : goal.overflow_mul-k
