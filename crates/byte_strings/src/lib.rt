@@ -1,4 +1,6 @@
 // Byte strings: comparing, cutting, copying, and leading zeros.
+#![tactic(auto)]
+
 ghost use Rattle.std.specs.Prelude.{◌≡◌, ◌+◌, ◌≤◌, ◌<◌, length, take, drop};
 ghost use Rattle.grammar.specs.Bytes.{same};
 ghost use Rattle.grammar.specs.Canonical.{strip};

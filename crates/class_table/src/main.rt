@@ -1,46 +1,51 @@
 // Prints the table of the classes of bytes as the constant stands in the source of the scanner, an entry to a line.
-use libc::STDOUT_FILENO;
+#![tactic(auto)]
 
-fn print(part: &[u8]) {
-    io::write_all(STDOUT_FILENO, part);
+use std::io;
+use std::io::Write;
+
+fn print<W: Write>(out: &mut W, part: &[u8]) -> io::Result<()> {
+    out.write_all(part)
 }
 
 // Writes the name that a class has in the source.
-fn print_name(class: u8) {
+fn print_name<W: Write>(out: &mut W, class: u8) -> io::Result<()> {
     match class {
-        byte_classes::BLANK => print(b"BLANK"),
-        byte_classes::LETTER => print(b"LETTER"),
-        byte_classes::DIGIT => print(b"DIGIT"),
-        byte_classes::UNDERSCORE => print(b"UNDERSCORE"),
-        byte_classes::SIGN => print(b"SIGN"),
-        byte_classes::QUOTE => print(b"QUOTE"),
-        byte_classes::OPENING => print(b"OPENING"),
-        byte_classes::CLOSING => print(b"CLOSING"),
-        byte_classes::SEMICOLON => print(b"SEMICOLON"),
-        _ => print(b"OTHER"),
+        byte_classes::BLANK => print(out, b"BLANK"),
+        byte_classes::LETTER => print(out, b"LETTER"),
+        byte_classes::DIGIT => print(out, b"DIGIT"),
+        byte_classes::UNDERSCORE => print(out, b"UNDERSCORE"),
+        byte_classes::SIGN => print(out, b"SIGN"),
+        byte_classes::QUOTE => print(out, b"QUOTE"),
+        byte_classes::OPENING => print(out, b"OPENING"),
+        byte_classes::CLOSING => print(out, b"CLOSING"),
+        byte_classes::SEMICOLON => print(out, b"SEMICOLON"),
+        _ => print(out, b"OTHER"),
     }
 }
 
 // Writes the entry of a byte by the rule, and the byte itself behind it.
-fn print_entry(b: u8) {
-    print(b"    ");
-    print_name(byte_classes::class(b));
-    print(b", // ");
-    io::print_decimal(STDOUT_FILENO, b as u64);
-    print(b"\n");
+fn print_entry<W: Write>(out: &mut W, b: u8) -> io::Result<()> {
+    print(out, b"    ")?;
+    print_name(out, byte_classes::class(b))?;
+    print(out, b", // ")?;
+    write!(out, "{b}")?;
+    print(out, b"\n")
 }
 
 // Writes the entries of all bytes.
-fn print_entries() {
+fn print_entries<W: Write>(out: &mut W) -> io::Result<()> {
     let mut b: usize = 0;
     while b < 256 {
-        print_entry(b as u8);
+        print_entry(out, b as u8)?;
         b += 1;
     }
+    Ok(())
 }
 
-fn main() {
-    print(b"const CLASSES: [u8; 256] = [\n");
-    print_entries();
-    print(b"];\n");
+fn main(rt: HostRuntime) -> io::Result<()> {
+    let mut out = rt.stdout();
+    print(&mut out, b"const CLASSES: [u8; 256] = [\n")?;
+    print_entries(&mut out)?;
+    print(&mut out, b"];\n")
 }

@@ -1,7 +1,7 @@
 -- What holds of a call of any service on a text. The checks come first: what they refuse is refused. Of a text that is read the service gives a
 -- refusal of its own, or writes something over the buffer. What is read is what the text reads as.
 use mathlib.Core.Path.{◌≡◌, refl, sym, ap, ◌∙◌}
-use mathlib.Core.Logic.{◌↔◌, ◌⊎◌, inl, inr, ⊎_elim}
+use mathlib.Core.Logic.{◌↔◌, inl, inr, ⊎_elim}
 use mathlib.Core.Bool.{Bool, true, false}
 use mathlib.Core.List.{List, ◌∷◌}
 use Prim.Native.Nat.{ℕ}

@@ -83,11 +83,13 @@ module _ (text : Bytes) (B B' : List ℕ) (a : Answer) (h : Canonicalizes text B
   answers = Calls.answers call
 
 pub written :
-    (text : Bytes) (B B' : List ℕ) (a : Answer) → Canonicalizes text B B' a → a.number ≡ 0 → (t : Tree) → ReadingOf text t → BufferHolds B B' a.count t
+    (text : Bytes) (B B' : List ℕ) (a : Answer) → Canonicalizes text B B' a → a.number ≡ 0 → (t : Tree) → ReadingOf text t
+    → BufferHolds B B' a.count t
 unfolding over reading_text text_into
 written text B B' a h z t i =
     let (r, e, v, g, d, u) = Calls.success-read (call text B B' a h) z in
-    let (counted, bytes) = bytes-given (leb (length (reading_text r)) (length B) && leb (length (reading_text r)) longest_text) (reading_text r) v g in
+    let (counted, bytes) = bytes-given (leb (length (reading_text r)) (length B) && leb (length (reading_text r)) longest_text)
+    (reading_text r) v g in
     let c = d ∙ sym counted in
     let w = u ∙ ap (λ m. over m B) (sym bytes) in
     let same : r.tree ≡ t = same_reading text r.tree t (reading_of text r e) i in
@@ -169,7 +171,8 @@ canonical_of c =
 
 -- .. so no text with a tree that agrees has fewer tokens, ..
 pub fewest_tokens :
-    (ts us : List Token) (t u : Tree) (other : Bytes) → Canonicalized ts t → Spells other us → IsTree start_table us u → Agree t u → length ts ≤ length us
+    (ts us : List Token) (t u : Tree) (other : Bytes) → Canonicalized ts t → Spells other us → IsTree start_table us u → Agree t u
+    → length ts ≤ length us
 fewest_tokens ts us t u other c s h agree = FewestTokens.fewest_tokens (canonical_of c) us u (spells_tokens s) h agree
 
 -- .. and none of its bracket pairs can be dropped.

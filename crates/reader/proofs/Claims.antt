@@ -27,7 +27,18 @@ use Rattle.grammar.specs.Abstract.{Agree}
 use Rattle.grammar.specs.Canonical.{strip, strip_declaration}
 use Rattle.grammar.specs.MatchingPair.{MatchingPair, remaining}
 use Rattle.grammar.specs.Fault.{current, without_reserving, with_four_conditions, longest_text, Fault, Past, Unreserved, Conditioned}
-use Rattle.grammar.specs.Claim.{BlocksLawful, operators_among, operators_of, FirstWithout, EmptyInside, TreeOf, ReadingOf, canonical_tree, canonical_bytes, Faithful}
+use Rattle.grammar.specs.Claim.{
+  BlocksLawful,
+  operators_among,
+  operators_of,
+  FirstWithout,
+  EmptyInside,
+  TreeOf,
+  ReadingOf,
+  canonical_tree,
+  canonical_bytes,
+  Faithful,
+}
 use Rattle.grammar.proofs.Numbers as Numbers
 use Rattle.grammar.proofs.Scanned as Scanned
 use Rattle.grammar.proofs.Names as Names
@@ -43,7 +54,21 @@ use Rattle.grammar.proofs.BlankRules as BlankRules
 use Rattle.grammar.proofs.ReservedRoles as ReservedRoles
 use Rattle.reader.specs.declared.Answer.{Answer}
 use Rattle.reader.specs.Answered.{written, Reads, Canonicalizes, node_written, WritesName}
-use Rattle.reader.specs.Demands.{RightAnswer, TableFits, TableTooShort, BufferTooShort, TableHolds, BufferHolds, RightReading, RightCanonical, OnlyReading, OnlyCanonical, Canonicalized, AtomAt, NameWritten}
+use Rattle.reader.specs.Demands.{
+  RightAnswer,
+  TableFits,
+  TableTooShort,
+  BufferTooShort,
+  TableHolds,
+  BufferHolds,
+  RightReading,
+  RightCanonical,
+  OnlyReading,
+  OnlyCanonical,
+  Canonicalized,
+  AtomAt,
+  NameWritten,
+}
 use Rattle.reader.proofs.ReadCalls as ReadCalls
 use Rattle.reader.proofs.NameCalls as NameCalls
 use Rattle.reader.proofs.CanonicalCalls as CanonicalCalls
@@ -74,7 +99,8 @@ blocks_lawful = Rules.reading_lawful
 
 -- The buffer holds the canonical text of what the text reads as.
 pub canonical-written :
-    (text : Bytes) (B B' : List ℕ) (a : Answer) → Canonicalizes text B B' a → a.number ≡ 0 → (t : Tree) → ReadingOf text t → BufferHolds B B' a.count t
+    (text : Bytes) (B B' : List ℕ) (a : Answer) → Canonicalizes text B B' a → a.number ≡ 0 → (t : Tree) → ReadingOf text t
+    → BufferHolds B B' a.count t
 canonical-written = CanonicalCalls.written
 
 -- It reads back to the canonical tree, with every table that is long enough for that tree, ..
@@ -249,7 +275,8 @@ canonicalized = CanonicalCalls.canonicalized
 -- "no text with that same bracketless tree and the same declarations has fewer tokens": whatever tree another text has under the starting
 -- operators, past the checks or not. (A blank text has no tree. It agrees with blank rules alone, whose canonical text has no token.)
 pub fewest_tokens :
-    (ts us : List Token) (t u : Tree) (other : Bytes) → Canonicalized ts t → Spells other us → IsTree start_table us u → Agree t u → length ts ≤ length us
+    (ts us : List Token) (t u : Tree) (other : Bytes) → Canonicalized ts t → Spells other us → IsTree start_table us u → Agree t u
+    → length ts ≤ length us
 fewest_tokens = CanonicalCalls.fewest_tokens
 
 -- "drop any one matching pair of brackets from a tidy text, and the remaining tokens have no tree or a tree that differs from the old one once

@@ -59,7 +59,8 @@ text_small B r =
 -- The nodes that reading counts stand in the table.
 pub count_fits : (text : Bytes) (N N' : List ℕ) (a : Answer) → Reads text N N' a → words_per_node * a.count ≤ length N
 unfolding G.read
-count_fits text N N' a e = answer_fits words_per_node N a N' _ e (small_behind words_per_node N (nodes_into text N) (read_text text) (nodes_small text N))
+count_fits text N N' a e =
+    answer_fits words_per_node N a N' _ e (small_behind words_per_node N (nodes_into text N) (read_text text) (nodes_small text N))
 
 -- The bytes that canonicalizing counts stand in the buffer.
 pub canonical_count_fits : (text : Bytes) (B B' : List ℕ) (a : Answer) → Canonicalizes text B B' a → a.count ≤ length B

@@ -40,7 +40,8 @@ table_settled : (text : Bytes) (N : List ℕ) → Settles (TableHolds text N)
 table_settled text N t C C' c d h g =
     let e : c ≡ d = h.counted ∙ sym g.counted in
     let size : words_per_node * d ≡ words_per_node * c = ap (◌*◌ words_per_node) (sym e) in
-    let words = words_offsets h.offsets g.offsets start_table t 0 0 (λ j l m. (goes_on_unique (h.begins j (omega arith)).1 (g.begins j (omega arith)).1).0) in
+    let words = words_offsets h.offsets g.offsets start_table t 0 0
+    (λ j l m. (goes_on_unique (h.begins j (omega arith)).1 (g.begins j (omega arith)).1).0) in
     let front = h.written ∙ words ∙ sym g.written ∙ ap (λ k. take k C') size in
     let rest = h.behind ∙ ap (λ k. drop k N) (sym size) ∙ sym g.behind ∙ ap (λ k. drop k C') size in
     (e, same_parts (words_per_node * c) C C' front rest)

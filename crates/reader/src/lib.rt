@@ -1,5 +1,7 @@
 // The services: any bytes in; a node table, or canonical text, or a numbered refusal out; or where a text without a tree is lost. And for a node
 // of the table its part of the text, or the characters of its name.
+#![tactic(auto)]
+
 ghost use Rattle.std.specs.Prelude.{◌≡◌};
 ghost use Rattle.reader.specs.Answered.{answer_from, written, Reads, Canonicalizes, Locates, node_written, WritesName};
 

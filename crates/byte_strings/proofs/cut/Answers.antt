@@ -2,7 +2,6 @@
 use mathlib.Core.Path.{sym}
 use native.Mathlib.Omega.{arith}
 use Rattle.byte_strings.proofs.Suffixes.{part_none, part_rest, part_whole}
-use borrow.Author.Rules.{rules}
 use Rattle.byte_strings.proofs.cut.Goals as goal
 
 pub returns-then-len-at : goal.returns-then-len-at

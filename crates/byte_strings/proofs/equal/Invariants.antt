@@ -1,11 +1,8 @@
 -- The loop's invariant: the two are the same if what is left of them is. Assumes nothing.
-use mathlib.Core.Path.{◌≡◌, refl, sym, ◌∙◌}
+use mathlib.Core.Path.{◌≡◌}
 use Prim.Native.Nat.{◌-◌}
-use native.Mathlib.Omega.{arith}
-use borrow.Author.Rules.{rules}
 use lib.ListN.{length, drop}
 use Rattle.grammar.specs.Bytes.{same}
-use Rattle.byte_strings.proofs.Suffixes.{same_step, same_stop, same_end, same_length}
 use Rattle.byte_strings.proofs.equal.Given as goal
 
 abbrev pub invariant-loop-i : goal.invariant-loop-i

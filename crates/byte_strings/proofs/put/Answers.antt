@@ -1,11 +1,8 @@
 -- The loop's invariant: what is left of the part is to be put behind the `n + i` bytes that stand. Assumes nothing.
-use mathlib.Core.Path.{◌≡◌, refl, ◌∙◌}
-use Prim.Native.Nat.{◌+◌, ◌-◌, ◌≤◌}
+use mathlib.Core.Path.{refl, ◌∙◌}
 use native.Mathlib.Nat.{add-zero}
 use native.Mathlib.Omega.{arith}
-use borrow.Author.Rules.{rules}
-use lib.ListN.{length, drop, length-set}
-use lib.Seq.{sets}
+use lib.ListN.{length-set}
 use Rattle.byte_strings.proofs.Puts.{put_step, put-end}
 use Rattle.byte_strings.proofs.put.Goals as goal
 

@@ -1,10 +1,6 @@
 -- The loop's invariant: what is left from `z` on has the same digits without zeros as all.
-use mathlib.Core.Path.{◌≡◌, refl, sym, ◌∙◌}
-use Prim.Native.Nat.{◌-◌, ◌<◌}
+use mathlib.Core.Path.{refl, sym, ◌∙◌}
 use native.Mathlib.Omega.{arith}
-use lib.ListN.{length, drop}
-use borrow.Author.Rules.{rules}
-use Rattle.grammar.specs.Canonical.{strip}
 use Rattle.byte_strings.proofs.LeadingZeros.{zeros_step, zeros_stop, zeros_end}
 use Rattle.byte_strings.proofs.zeros.Goals as goal
 

@@ -1,11 +1,8 @@
 -- The loop's invariant: what is left from `z` on has the same digits without zeros as all.
-use mathlib.Core.Path.{◌≡◌, refl, sym, ◌∙◌}
+use mathlib.Core.Path.{◌≡◌}
 use Prim.Native.Nat.{◌-◌, ◌<◌}
-use native.Mathlib.Omega.{arith}
 use lib.ListN.{length, drop}
-use borrow.Author.Rules.{rules}
 use Rattle.grammar.specs.Canonical.{strip}
-use Rattle.byte_strings.proofs.LeadingZeros.{zeros_step, zeros_stop, zeros_end}
 use Rattle.byte_strings.proofs.zeros.Given as goal
 
 abbrev pub invariant-loop-z : goal.invariant-loop-z

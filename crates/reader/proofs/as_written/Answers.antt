@@ -1,5 +1,4 @@
 -- A node whose words are not all there gives nothing; another the part of the text by its offset and length.
-use borrow.Author.Rules.{rules}
 use mathlib.Core.Path.{◌≡◌, sym, ◌∙◌}
 use mathlib.Core.List.{List}
 use Prim.Native.Nat.{ℕ, ◌+◌, ◌*◌, ◌<◌}
@@ -25,14 +24,6 @@ returns-then-nodes-i c =
 pub returns-then-nodes-w : goal.returns-then-nodes-w
 returns-then-nodes-w c =
     c.cut-then-nodes-w.ensures ∙ no_node _ _ _ (omega (arith, c.if-nodes-w.true))
-
-pub overflow_cast-at : goal.overflow_cast-at
-overflow_cast-at c =
-    omega (arith, c.shared_slice_known-3-1.given (c.args.i * words_per_node + 3))
-
-pub overflow_cast-n : goal.overflow_cast-n
-overflow_cast-n c =
-    omega (arith, c.shared_slice_known-4-1.given (c.args.i * words_per_node + 4))
 
 pub returns : goal.returns
 returns c =

@@ -1,5 +1,4 @@
 -- What the front leaves is what the service promises.
-use borrow.Author.Rules.{rules}
 use Rattle.reader.proofs.HandedOut.{read_handed_out}
 use Rattle.reader.proofs.read.Goals as goal
 

@@ -2,7 +2,6 @@
 use mathlib.Core.Path.{◌≡◌, sym, ap, ap₂, ◌∙◌}
 use native.Mathlib.Omega.{arith}
 use lib.ListN.{length}
-use borrow.Author.Rules.{rules}
 use Rattle.grammar.specs.Token.{undoubled}
 use Rattle.grammar.specs.Answer.{over}
 use Rattle.reader.specs.Answered.{result_of, written, node_written}
@@ -18,20 +17,14 @@ counted c = c.count-count.ensures ∙ ap (λ w. length (undoubled w)) c.as_writt
 
 pub returns-then-buffer-count : goal.returns-then-buffer-count
 returns-then-buffer-count c =
-    let n = c in
-    let a = n.args in
-    sym (name_short (node_written a.text.now a.nodes.now a.i) a.buffer-1.now (omega (arith, counted (goal.at.returns-then-buffer-count c).After-count-count, c.if-buffer-count.true)))
-
-pub write-requires : goal.write-requires
-write-requires c = omega (arith, c.count-count.ensures, c.if-buffer-count.false)
+    let a = c.args in
+    let n = counted (goal.at.returns-then-buffer-count c).After-count-count in
+    sym (name_short (node_written a.text.now a.nodes.now a.i) a.buffer.now (omega (arith, n, c.if-buffer-count.true)))
 
 pub returns : goal.returns
 returns c =
-    let w = c in
-    let e = w in
-    let n = e in
-    let a = n.args in
+    let a = c.args in
     let part = node_written a.text.now a.nodes.now a.i in
-    let filled = w.write.ensures ∙ ap (λ b. over (undoubled b) a.buffer-1.now) n.as_written-written.ensures in
-    ap₂ (λ m b. result_of (written m) b) (counted (goal.at.returns c).After-count-count) filled
-    ∙ sym (name_fits part a.buffer-1.now (omega (arith, counted (goal.at.returns c).After-count-count, e.if-buffer-count.false)))
+    let n = counted (goal.at.returns c).After-count-count in
+    let filled = c.write.ensures ∙ ap (λ b. over (undoubled b) a.buffer.now) c.as_written-written.ensures in
+    ap₂ (λ m b. result_of (written m) b) n filled ∙ sym (name_fits part a.buffer.now (omega (arith, n, c.if-buffer-count.false)))
