@@ -125,17 +125,10 @@ module _ {M : Rows} {N : List ℕ} {from at to base : ℕ} (h : Buildable M from
       let c = (rw p at its_shape.first).1 in
       (c.falls, child_asks c (omega (arith, c.fewer, h.room)) (omega (arith, c.fewer, h.few)))
 
--- What a call leaves: at least one node, and as many words as there were.
+-- What a call leaves: at least one node.
 module _ {M : Rows} {N N₁ : List ℕ} {from at to base n : ℕ} (h : Buildable M from at to N base) (w : Built M from at to N base N₁ n) where
   pub built_counts : 1 ≤ n
   built_counts = omega (arith, w.counted h.places h.table h.tree h.stands, (stands-root h.places M h.stands).0)
-
-  pub built_length : length N₁ ≡ length N
-  built_length =
-      let s = h.stands in
-      let l = stands-size h.places M s base in
-      ap length (w.written h.places h.table h.tree s)
-      ∙ over-length (words h.places h.table h.tree from base) N (omega (arith, h.room))
 
 -- The first part is there or not.
 module _ {M : Rows} {N : List ℕ} {from at to base : ℕ} where

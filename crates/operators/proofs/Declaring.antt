@@ -220,7 +220,8 @@ module _ (text : Bytes) (t : Table) (found : Found) (start size hash fixity code
             rw (eqb-true j k e)
             (role_sound t.words k code text long found_small x t.hints asked.is_role.0 (sound_at text t asked.sound k within))
         go j h false e =
-            same_sound text (stored t.words k code x) j t.words j (role-other t.words k code x j (eqb-false j k e)) t.hints (sound_at text t asked.sound j h)
+            same_sound text (stored t.words k code x) j t.words j (role-other t.words k code x j (eqb-false j k e)) t.hints
+            (sound_at text t asked.sound j h)
 
     -- The table and the place as the code has them.
     pub declared_found_at :

@@ -193,7 +193,8 @@ module _ (q : Roles → Bool) where
     where
       go :
           (b : Bool) → same m o.name ≡ b → q o.roles ≡ true → every_operator q T ≡ true
-          → (((g : Fixity) → role T m g ≡ none) → every_operator q (declare_role m f r T) ≡ true) → every_operator q (declare_role m f r (o ∷ T)) ≡ true
+          → (((g : Fixity) → role T m g ≡ none) → every_operator q (declare_role m f r T) ≡ true)
+          → every_operator q (declare_role m f r (o ∷ T)) ≡ true
       go true d p s u = rw (d, declare_role, alone f r o.roles (λ g. rw (d, role) at (h g)), every_operator) s
       go false d p s u = rw (d, declare_role, p, every_operator) (u (λ g. rw (d, role) at (h g)))
 
@@ -220,7 +221,8 @@ kept T U e f g =
     ⊎_elim (λ h. rw (f h)) (λ h. rw (g h) (or-true (every_operator is_apart U))) (or_cases (every_operator is_apart T) (every_operator lawful T) e)
 
 pub declared-permitted :
-    (m : Bytes) (f : Fixity) (r : Role) (T : G.Table) → permitted T ≡ true → ((g : Fixity) → role T m g ≡ none) → permitted (declare_role m f r T) ≡ true
+    (m : Bytes) (f : Fixity) (r : Role) (T : G.Table) → permitted T ≡ true → ((g : Fixity) → role T m g ≡ none)
+    → permitted (declare_role m f r T) ≡ true
 declared-permitted m f r T e h =
     kept T (declare_role m f r T) e (λ d. declared-every is_apart alone_apart m f r T d h) (λ d. declared-every lawful alone_lawful m f r T d h)
 

@@ -3,7 +3,7 @@
 use mathlib.Core.Path.{◌≡◌, sym, ap}
 use mathlib.Core.Bool.{Bool, true, false}
 use mathlib.Core.List.{List}
-use Prim.Native.Nat.{ℕ, suc, ◌+◌, ◌-◌, ◌≤◌, ◌<◌, ◌^◌}
+use Prim.Native.Nat.{ℕ, suc, ◌+◌, ◌-◌, ◌≤◌, ◌<◌}
 use native.Mathlib.Numerals.{add-one}
 use native.Mathlib.Omega.{arith}
 use lib.ListN.{length, take, drop, length-take, length-drop}
@@ -14,8 +14,6 @@ use Rattle.grammar.specs.Operator.{Roles, Table, is_apart, lawful, every_operato
 use Rattle.grammar.proofs.Logic.{below}
 use Rattle.rows.specs.Codes.{roles_of}
 use Rattle.starting_operators.specs.Starting.{start_name}
-use Rattle.starting_operators.proofs.Numbers.{start_few}
-use Rattle.starting_operators.proofs.NameSizes.{name_sizes}
 use Rattle.operators.specs.Entries.{word, name_in, name_at, Stands, coded_find, operators_from}
 use Rattle.operators.specs.declared.table.Found.TheVariants.{At, Nothing}
 
@@ -35,16 +33,7 @@ module _ (text : Bytes) (start size : ℕ) where
       (λ h. rw (name_in_text h) (simp (length-take, length-drop) (omega (arith, p h))))
       (λ h. rw (name_at_start h) (sym (q h).1))
 
-  -- So it ends at a number of the machine's own size.
-  pub name_end : Stands text start size → length text < 2 ^ 64 → start + size < 2 ^ 64
-  name_end (p, q) a =
-      below start longest_text (λ h. omega (arith, p h)) (λ h. let (k, s) = q h in omega (arith, start_few, name_sizes _ k))
-
--- Looking for a name: from the first entry on ..
-pub find_all : (text : Bytes) (W : List ℕ) (name : Bytes) (n : ℕ) → coded_find text W name 0 n ≡ coded_find text W name 0 (n - 0)
-find_all text W name n = ap (coded_find text W name 0) (omega arith)
-
--- .. up to the last ..
+-- Looking for a name: there is none behind the last entry; ..
 pub find_none : (text : Bytes) (W : List ℕ) (name : Bytes) (i n : ℕ) → n ≤ i → coded_find text W name i (n - i) ≡ Nothing
 unfolding coded_find
 find_none text W name i n h = let k : n - i ≡ 0 = omega arith in rw (k, coded_find)
@@ -64,9 +53,6 @@ module _ (text : Bytes) (W : List ℕ) (name : Bytes) (i n : ℕ) (h : i < n) wh
 
 -- A test of every operator, entry by entry.
 module _ (q : Roles → Bool) (text W : List ℕ) where
-  pub every_all : (n : ℕ) → every_operator q (operators_from text W 0 n) ≡ every_operator q (operators_from text W 0 (n - 0))
-  every_all n = ap (λ k. every_operator q (operators_from text W 0 k)) (omega arith)
-
   pub every_end : (i n : ℕ) → n ≤ i → every_operator q (operators_from text W i (n - i)) ≡ true
   unfolding every_operator operators_from
   every_end i n h = let k : n - i ≡ 0 = omega arith in rw (k, operators_from)

@@ -3,8 +3,8 @@ ghost use Rattle.std.specs.Prelude.{◌≡◌, List, ℕ, ◌<◌};
 ghost use Rattle.grammar.specs.Bytes.{Bytes, same};
 ghost use Rattle.grammar.specs.Operator.{lawful, every_operator, permitted};
 ghost use Rattle.starting_operators.specs.Starting.{start_number};
-ghost use Rattle.operators.specs.Entries.{word, name_start, name_size, name_in, name_at, Stands, coded_find, operators_from, table_by, hash_of, Sound};
-ghost use Rattle.operators.specs.Entries.{Puttable, started_words, started_hints, Starting, IsName, Quickly};
+ghost use Rattle.operators.specs.Entries.{word, name_start, name_size, name_in, name_at, Stands, coded_find, operators_from, table_by, hash_of};
+ghost use Rattle.operators.specs.Entries.{Sound, Puttable, started_words, started_hints, Starting, IsName, Quickly};
 ghost use Rattle.operators.specs.Entries.{Declarable, Declared, Clearable, Cleared};
 
 use crate::conditions;
@@ -194,6 +194,7 @@ pub fn find<'a>(
 }
 
 // The entry of the starting operator with a number, where nothing stands yet, and the hint for its hash.
+#[tactic(auto, using(starting_operators::proofs::Numbers::start_few))]
 fn put(words: &mut [u16], hints: &mut [u8], number: usize)
     requires { Puttable words.old hints.old number }
     ensures { (words.new ≡ started_words words.old number)

@@ -2,13 +2,11 @@
 -- and where its bytes stand.
 use mathlib.Core.Path.{◌≡◌, refl, sym, ap, subst, ◌∙◌}
 use mathlib.Core.Logic.{◌⊎◌, inl, inr}
-use mathlib.Core.List.{List, [], ◌∷◌}
+use mathlib.Core.List.{List}
 use Prim.Native.Nat.{ℕ, ◌+◌, ◌-◌, ◌≤◌, ◌<◌}
 use native.Mathlib.Omega.{arith}
 use lib.ListN.{length, take, drop}
 use borrow.Author.Tests.{eq-eqb, ne_eqb}
-use types.Run.{OneOf, miss}
-use denote.Enum.Declared.{tag_of}
 use Rattle.grammar.specs.Bytes.{Bytes}
 use Rattle.grammar.specs.Operator.{Table}
 use Rattle.grammar.proofs.Doubling.{IsDoubled}
@@ -17,7 +15,6 @@ use Rattle.rows.specs.Fields.{kind, start, size, closer, Within}
 use Rattle.rows.specs.Tokens.{written_of, Paired, done, single, bracket, block}
 use Rattle.rows.proofs.Fields.{within}
 use Rattle.rows.proofs.Noting.{WordsAt, number_noted, number_item}
-use Rattle.rows.specs.contracts.class.Class.{the_type}
 use Rattle.rows.proofs.Stored.{part_ends, stored_sized, stored_doubled, stored_written, part_written}
 use Rattle.operators.specs.Entries.{coded_find, IsName}
 use Rattle.operators.specs.declared.table.Found.{Found}
@@ -103,13 +100,10 @@ module _ (text : Bytes) (K : List ℕ) (i : ℕ) (W : List ℕ) (count : ℕ) wh
   pub found_says : {to : ℕ} → Paired K i to → i < to → (x : Class) → x ≡ class → Says x
   found_says p l x e = subst Says (sym e) (class_says p l)
 
--- A token of a range stands in both rows, and its bytes in the text.
+-- A token of a range stands in the row of roles, and its bytes in the text.
 module _ {text : Bytes} {K R : List ℕ} {i to : ℕ} (g : Ranged text K R i to) (l : i < to) where
   pub stands : i < length g.placed
   stands = omega (arith, g.within)
-
-  pub token_within : Within 4 K i
-  token_within = within 4 (length g.placed) K i g.tokens stands
 
   pub roles_within : Within 4 R i
   roles_within = within 4 (length g.placed) R i g.roles stands
@@ -132,21 +126,20 @@ pub name_kind_lem : {X : Type 0} {k : ℕ} → ((k ≡ 1) × X) ⊎ (k ≡ 3) �
 name_kind_lem (inl h) = omega (arith, h.0)
 name_kind_lem (inr h) = omega arith
 
--- By the number of a class, in the order of `Class`: a number, bracket pair or block is noted without roles; a name, number or operator is
--- an atom.
+-- By the class: a number, bracket pair or block is noted without roles; a name, number or operator is an atom.
 module _ (text : Bytes) (K : List ℕ) (T : Table) (R : List ℕ) (i : ℕ) (R' : List ℕ) where
   pub no_roles_noted :
-      (W : List ℕ) (count : ℕ) (x : Class) → OneOf (1 ∷ 3 ∷ 4 ∷ []) (tag_of the_type x) → Says text K i W count x → WordsAt R i 0 0 0 0 R'
-      → Notes text K T R i R' x
-  no_roles_noted W count (Name s n) k h w = absurd (miss (1 ∷ 3 ∷ 4 ∷ []) 0 tt k)
-  no_roles_noted W count (Operator e) k h w = absurd (miss (1 ∷ 3 ∷ 4 ∷ []) 2 tt k)
-  no_roles_noted W count Number k h w = number_item text K T R i R' h (number_noted R i R' T _ w)
-  no_roles_noted W count (Bracket c) k h w = (h.0, h.1, w.arrives, w.kept)
-  no_roles_noted W count (Block e) k h w = (h.0, h.1, w.arrives, w.kept)
+      (W : List ℕ) (count : ℕ) (x : Class) → ((k : ℕ) → x ≡ Operator k → ⊥) → ((s n : ℕ) → x ≡ Name s n → ⊥) → Says text K i W count x
+      → WordsAt R i 0 0 0 0 R' → Notes text K T R i R' x
+  no_roles_noted W count (Name s n) o m h w = absurd (m s n refl)
+  no_roles_noted W count (Operator e) o m h w = absurd (o e refl)
+  no_roles_noted W count Number o m h w = number_item text K T R i R' h (number_noted R i R' T _ w)
+  no_roles_noted W count (Bracket c) o m h w = (h.0, h.1, w.arrives, w.kept)
+  no_roles_noted W count (Block e) o m h w = (h.0, h.1, w.arrives, w.kept)
 
-  pub atom_noted : (x : Class) → OneOf (0 ∷ 1 ∷ 2 ∷ []) (tag_of the_type x) → Notes text K T R i R' x → AtomNoted text K T R i R'
-  atom_noted (Name s n) k h = h
-  atom_noted Number k h = h
-  atom_noted (Operator e) k h = h
-  atom_noted (Bracket c) k h = absurd (miss (0 ∷ 1 ∷ 2 ∷ []) 3 tt k)
-  atom_noted (Block e) k h = absurd (miss (0 ∷ 1 ∷ 2 ∷ []) 4 tt k)
+  pub atom_noted : (x : Class) → ((c : ℕ) → x ≡ Bracket c → ⊥) → ((e : ℕ) → x ≡ Block e → ⊥) → Notes text K T R i R' x → AtomNoted text K T R i R'
+  atom_noted (Name s n) o m h = h
+  atom_noted Number o m h = h
+  atom_noted (Operator e) o m h = h
+  atom_noted (Bracket c) o m h = absurd (o c refl)
+  atom_noted (Block e) o m h = absurd (m e refl)

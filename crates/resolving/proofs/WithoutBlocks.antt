@@ -43,7 +43,8 @@ module _ (text : Bytes) (K : List ℕ) (T : Table) where
     unfolding check_items check_item item_tokens
     items_pass (done {to = to}) h k l = rw (items_done text K to)
     items_pass (single {i = i} {to = to} b a p) h k l =
-        passes_first i (suc i) to k (Span.single (atom_in text K i)) (items_single text K i to b a) (omega arith) refl (items_pass p h k (omega arith))
+        passes_first i (suc i) to k (Span.single (atom_in text K i)) (items_single text K i to b a) (omega arith) refl
+        (items_pass p h k (omega arith))
     items_pass (bracket {i = i} {to = to} c o w b d e p q) h k l =
         passes_first i (suc c) to k (Span.pair (range text K (suc i) c)) (items_bracket text K i c to o b d e p) (behind_pair text K i c b)
         (passes_inside (suc i) c k (omega arith) (λ m z. items_pass p (omega arith) m (omega arith)))

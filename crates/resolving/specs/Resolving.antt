@@ -6,7 +6,7 @@ use Rattle.grammar.specs.Token.{symbol}
 use Rattle.grammar.specs.Outcome.{Outcome, refused, passed}
 use Rattle.grammar.specs.Scan.{Placed}
 use Rattle.grammar.specs.Operator.{Table, permitted}
-use Rattle.grammar.specs.Declaration.{enter, declarations}
+use Rattle.grammar.specs.Declaration.{enter}
 use Rattle.grammar.specs.Blocks.{check_blocks}
 use Rattle.rows.specs.Fields.{kind, start, size, closer, arrival, Holds}
 use Rattle.rows.specs.Tokens.{written_of, atom_in, range, IsAtomKind, Paired, Stored}

@@ -1,5 +1,7 @@
 // The roles in force of each token: document 01's "A word or sign without a role in force is a name", and refusals 8 to 10 and 17 over all
 // blocks.
+#![tactic(auto)]
+
 ghost use Rattle.std.specs.Prelude.{◌≡◌, false, List, ℕ, ◌<◌};
 ghost use Rattle.grammar.specs.Declaration.{start_table};
 ghost use Rattle.rows.specs.Fields.{Within};

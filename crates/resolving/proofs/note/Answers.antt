@@ -1,11 +1,6 @@
--- What the class of the token says is what is noted of it. Assumes nothing.
-use mathlib.Core.Path.{◌≡◌, refl, sym, ◌∙◌}
-use Prim.Native.Nat.{◌+◌, ◌≤◌}
-use native.Mathlib.Omega.{arith}
-use borrow.Author.Rules.{rules}
-use lib.ListN.{length}
+-- What the class of the token says is what is noted of it.
+use Rattle.std.proofs.Common.{◌≡◌, refl, sym, ◌∙◌, arith}
 use Rattle.operators.specs.Entries.{table_by}
-use Rattle.operators.specs.declared.table.Table.{Table}
 use Rattle.rows.specs.declared.class.Class.{Class}
 use Rattle.operators.proofs.Lookups.{found_below}
 use Rattle.rows.proofs.Noting.{words_stored, symbol_item, name_item}
@@ -22,89 +17,62 @@ use Rattle.resolving.proofs.Classes.{
   no_roles_noted,
 }
 use Rattle.resolving.proofs.note.Goals as goal
-use Rattle.resolving.proofs.note.Goals.{After-classify-class, In-Name-2, Start}
-
-abbrev entry : After-classify-class → Start
-entry c = c
+use Rattle.resolving.proofs.note.Goals.{After-classify-class, In-Name}
 
 -- What the class says.
-says :
-    (c : After-classify-class) (x : Class) → c.classify-class.result ≡ x
-    → let a = (entry c).args in
-    Says a.text.now a.tokens.now a.i a.words.now a.count x
+says : (c : After-classify-class) (x : Class) → c.classify-class.result ≡ x
+    → let a = c.args in Says a.text.now a.tokens.now a.i a.words.now a.count x
 says c x e =
-    let p = (entry c).requires.0 in
-    found_says _ _ _ _ _ p.1.paired p.2 x (sym e ∙ c.classify-class.ensures)
-
-abbrev operators : After-classify-class → Table
-operators c = let a = (entry c).args in table_by a.words.now a.hints.now a.count
+    let (to, g, l) = c.requires.0 in
+    found_says _ _ _ _ _ g.paired l x (sym e ∙ c.classify-class.ensures)
 
 pub store_operator-requires : goal.store_operator-requires
 store_operator-requires c =
-    let n = c in
-    let d = n in
-    let e = entry (goal.at.store_operator-requires c).After-classify-class in
-    let found = (says (goal.at.store_operator-requires c).After-classify-class _ n.in-Operator.is).1 in (
-      roles_within e.pre.0.1 e.pre.0.2,
-      (_, e.args.hints.now, e.args.count, e.pre.1, found_below _ (operators (goal.at.store_operator-requires c).After-classify-class) _ found),
+    let a = c.args in
+    let (to, g, l) = c.requires.0 in
+    let found = (says (goal.at.store_operator-requires c).After-classify-class _ c.in-Operator.is).1 in (
+      roles_within g l,
+      (_, a.hints.now, a.count, c.requires.1, found_below _ (table_by a.words.now a.hints.now a.count) _ found),
     )
 
--- A name, and where it ends in the text.
-ends :
-    (c : In-Name-2)
-    → c.in-Name.start + c.in-Name.size ≤ length (entry c).args.text.now
-ends c =
-    let d = c in
-    let p = (entry d).requires.0 in
-    let s = says d _ c.in-Name.is in
-    part_within p.1 p.2 s.0 s.1
-
 pub overflow_add-e : goal.overflow_add-e
-overflow_add-e c = omega (arith, ends (goal.at.overflow_add-e c).In-Name-2, (entry (goal.at.overflow_add-e c).After-classify-class).requires.0.1.short)
+overflow_add-e c =
+    let (to, g, l) = c.requires.0 in
+    let s = says (goal.at.overflow_add-e c).After-classify-class _ c.in-Name.is in
+    omega (arith, part_within g l s.0 s.1, g.short)
 
 pub slice_bounds-store_name-end : goal.slice_bounds-store_name-end
-slice_bounds-store_name-end c = omega (arith, ends (goal.at.slice_bounds-store_name-end c).In-Name-2)
+slice_bounds-store_name-end c =
+    let (to, g, l) = c.requires.0 in
+    let s = says (goal.at.slice_bounds-store_name-end c).After-classify-class _ c.in-Name.is in
+    omega (arith, part_within g l s.0 s.1)
 
 pub store_name-requires : goal.store_name-requires
 store_name-requires c =
-    let n = c in
-    let d = n in
-    let p = (entry (goal.at.store_name-requires c).After-classify-class).requires.0 in
-    let s = says (goal.at.store_name-requires c).After-classify-class _ n.in-Name.is in (
-      roles_within p.1 p.2,
-      (entry (goal.at.store_name-requires c).After-classify-class).requires.1,
-      part_named p.1 p.2 s.0 s.1 (name_kind_lem s.2),
-    )
+    let (to, g, l) = c.requires.0 in
+    let s = says (goal.at.store_name-requires c).After-classify-class _ c.in-Name.is in
+    (roles_within g l, c.requires.1, part_named g l s.0 s.1 (name_kind_lem s.2))
 
 pub returns-in-Operator : goal.returns-in-Operator
 returns-in-Operator c =
-    let o = c in
-    let n = o in
-    let d = n in
-    let e = entry (goal.at.returns-in-Operator c).After-classify-class in
-    let s = says (goal.at.returns-in-Operator c).After-classify-class _ n.in-Operator.is in (
-      sym n.in-Operator.is ∙ d.classify-class.ensures,
-      symbol_item _ _ _ _ _ _ s.0 (o.store_operator.ensures _ e.args.hints.now _ e.pre.1 _ s.1),
+    let s = says (goal.at.returns-in-Operator c).After-classify-class _ c.in-Operator.is in (
+      sym c.in-Operator.is ∙ c.classify-class.ensures,
+      symbol_item _ _ _ _ _ _ s.0 (c.store_operator.ensures _ c.args.hints.now _ c.requires.1 _ s.1),
     )
 
 pub returns-in-Name : goal.returns-in-Name
 returns-in-Name c =
-    let o = c in
-    let k = o in
-    let n = k in
-    let d = n in
-    let p = (entry (goal.at.returns-in-Name c).After-classify-class).requires.0 in
-    let s = says (goal.at.returns-in-Name c).After-classify-class _ n.in-Name.is in (
-      sym n.in-Name.is ∙ d.classify-class.ensures,
-      name_item _ _ _ _ _ _ (Unfound _ (operators (goal.at.returns-in-Name c).After-classify-class)) k.kind-quoted.ensures (part_is p.1 p.2 s.0 s.1) s.2 (part_doubled p.1 p.2)
-          o.store_name.ensures,
+    let a = c.args in
+    let (to, g, l) = c.requires.0 in
+    let s = says (goal.at.returns-in-Name c).After-classify-class _ c.in-Name.is in (
+      sym c.in-Name.is ∙ c.classify-class.ensures,
+      name_item _ _ _ _ _ _ (Unfound _ (table_by a.words.now a.hints.now a.count)) c.kind-quoted.ensures (part_is g l s.0 s.1) s.2 (part_doubled g l)
+          c.store_name.ensures,
     )
 
 pub returns-in_default : goal.returns-in_default
 returns-in_default c =
-    let o = c in
-    let n = o in
-    let d = n in
-    let p = (entry (goal.at.returns-in_default c).After-classify-class).requires.0 in
-    let w = words_stored _ (roles_within p.1 p.2) o.set.ensures refl refl refl refl in
-    (d.classify-class.ensures, no_roles_noted _ _ _ _ _ _ _ _ d.classify-class.result n.in-Operator.keys3 (says (goal.at.returns-in_default c).After-classify-class _ refl) w)
+    let (to, g, l) = c.requires.0 in
+    let w = words_stored _ (roles_within g l) c.set.ensures refl refl refl refl in
+    let s = says (goal.at.returns-in_default c).After-classify-class _ refl in
+    (c.classify-class.ensures, no_roles_noted _ _ _ _ _ _ _ _ c.classify-class.result c.in_default.not-Operator c.in_default.not-Name s w)

@@ -1,6 +1,5 @@
 -- The test of the two roles, by cases on whether there are two.
 use mathlib.Core.Path.{sym}
-use borrow.Author.Rules.{rules}
 use Rattle.rows.proofs.Codes.{no_role}
 use Rattle.operators.proofs.Roles.{one_precedence_first, one_precedence_second, one_precedence_both}
 use Rattle.operators.proofs.conditions.one_precedence.Goals as goal

@@ -1,6 +1,5 @@
 -- The number lies below those of the other associativities.
 use mathlib.Core.Path.{sym, ◌∙◌}
-use borrow.Author.Rules.{rules}
 use Rattle.operators.proofs.Roles.{only-left}
 use Rattle.operators.proofs.conditions.only_left.Goals as goal
 

@@ -1,7 +1,6 @@
 -- The number is 0, or lies between those of the other two associativities.
 use mathlib.Core.Path.{sym, ap, ◌∙◌}
 use mathlib.Core.Bool.{not}
-use borrow.Author.Rules.{rules}
 use borrow.Author.Tests.{ltb-true, ltb-false}
 use Rattle.operators.proofs.Roles.{only_none, only_non_left, only_non_lem}
 use Rattle.operators.proofs.conditions.only_non.Goals as goal

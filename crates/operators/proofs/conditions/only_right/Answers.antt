@@ -1,6 +1,5 @@
 -- The number is 0, or lies behind those of the other associativities.
 use mathlib.Core.Path.{sym, ◌∙◌}
-use borrow.Author.Rules.{rules}
 use Rattle.operators.proofs.Roles.{only_none, only-right}
 use Rattle.operators.proofs.conditions.only_right.Goals as goal
 

@@ -1,83 +1,75 @@
 -- Each branch takes one number off or does not, as `less_by` does; two bytes come to less than 4,096.
 use mathlib.Core.Path.{◌≡◌, sym, ◌∙◌}
-use mathlib.Core.Logic.{⊎_elim}
-use mathlib.Core.List.{List}
 use Prim.Native.Nat.{ℕ, ◌-◌, ◌<◌}
 use native.Mathlib.Omega.{arith}
 use lib.ListN.{length, get_or}
-use borrow.Author.Rules.{rules}
+use mir.Syntax.{w8}
+use mir.Val.{Fits}
 use Rattle.operators.specs.Entries.{less_by, last_two, hash_of}
 use Rattle.operators.proofs.Hashes.{less_off, less_kept, last_one, last_two_lem, hash_below}
 use Rattle.operators.proofs.table.hash.Goals as goal
-use Rattle.operators.proofs.table.hash.Goals.{After-shared_slice_known-1, After-shared_slice_known-then-n-gt1-1, Joined-h-ge1024, Joined-h-ge2048, Joined-h-ge256, Joined-h-ge512, Joined-n-gt1}
+use Rattle.operators.proofs.table.hash.Goals.{
+  Joined-h-ge256,
+  then-n-gt1,
+  else-n-gt1,
+  then-h-ge2048,
+  else-h-ge2048,
+  then-h-ge1024,
+  else-h-ge1024,
+  then-h-ge512,
+  else-h-ge512,
+  then-h-ge256,
+  else-h-ge256,
+}
 
--- The bytes are below 256.
-abbrev bytes : After-shared_slice_known-1 → List ℕ
-bytes c = c.args.name.now
-
-last_byte : (c : After-shared_slice_known-1) → get_or (bytes c) (length (bytes c) - 1) 0 < 256
-last_byte c = omega (arith, c.shared_slice_known-1.given (length (bytes c) - 1))
-
-byte-before : (c : After-shared_slice_known-then-n-gt1-1) → get_or (bytes c) (length (bytes c) - 2) 0 < 256
-byte-before c = omega (arith, c.shared_slice_known-then-n-gt1-1.given (length (bytes c) - 2))
-
-pub overflow_cast-h : goal.overflow_cast-h
-overflow_cast-h c = omega (arith, last_byte (goal.at.overflow_cast-h c).After-shared_slice_known-1)
-
-pub overflow_cast-h-then-n-gt1 : goal.overflow_cast-h-then-n-gt1
-overflow_cast-h-then-n-gt1 c = omega (arith, byte-before (goal.at.overflow_cast-h-then-n-gt1 c).After-shared_slice_known-then-n-gt1-1)
-
-pub overflow_mul-h : goal.overflow_mul-h
-overflow_mul-h c = omega (arith, byte-before (goal.at.overflow_mul-h c).After-shared_slice_known-then-n-gt1-1)
-
-pub overflow_add-h : goal.overflow_add-h
-overflow_add-h c = omega (arith, byte-before (goal.at.overflow_add-h c).After-shared_slice_known-then-n-gt1-1, last_byte (goal.at.overflow_add-h c).After-shared_slice_known-1)
-
--- The number behind each branch.
-two : (c : Joined-n-gt1) → c.if-n-gt1.h ≡ last_two (bytes c)
+-- The number behind the first branch.
+two : (c : Joined-h-ge256) → c.if-n-gt1.h ≡ last_two c.args.name.now
 two c =
-    ⊎_elim
-    (λ w. w.2 ∙ sym (last_two_lem (bytes c) w.0.taken))
-    (λ w. w.1 ∙ sym (last_one (bytes c) w.0.left))
-    c.if-n-gt1.branch
+    elim c.if-n-gt1.branch [
+      | then-n-gt1 w ↦ w.h-is ∙ sym (last_two_lem c.args.name.now w.if-n-gt1.true)
+      | else-n-gt1 w ↦ w.h-is ∙ sym (last_one c.args.name.now w.if-n-gt1.false)
+    ]
 
-small : (c : Joined-n-gt1) → c.if-n-gt1.h < 4096
-small c =
-    ⊎_elim
-    (λ w. omega (
-      arith,
-      w.2,
-      last_byte c,
-      byte-before (record { before = record { before = c; if1 = w.0 }; shared-slice-known2 = w.1 }),
-    ))
-    (λ w. omega (arith, w.1, last_byte c))
-    c.if-n-gt1.branch
-
-less-1 : (c : Joined-h-ge2048) → c.if-h-ge2048.h ≡ less_by 2048 c.if-n-gt1.h
-less-1 c = ⊎_elim (λ w. w.2 ∙ sym (less_off _ _ w.0.taken)) (λ w. w.1 ∙ sym (less_kept _ _ w.0.left)) c.if-h-ge2048.branch
-
-less-2 : (c : Joined-h-ge1024) → c.if-h-ge1024.h ≡ less_by 1024 c.if-h-ge2048.h
-less-2 c = ⊎_elim (λ w. w.2 ∙ sym (less_off _ _ w.0.taken)) (λ w. w.1 ∙ sym (less_kept _ _ w.0.left)) c.if-h-ge1024.branch
-
-less-3 : (c : Joined-h-ge512) → c.if-h-ge512.h ≡ less_by 512 c.if-h-ge1024.h
-less-3 c = ⊎_elim (λ w. w.2 ∙ sym (less_off _ _ w.0.taken)) (λ w. w.1 ∙ sym (less_kept _ _ w.0.left)) c.if-h-ge512.branch
-
-less-4 : (c : Joined-h-ge256) → c.if-h-ge256.h ≡ less_by 256 c.if-h-ge512.h
-less-4 c = ⊎_elim (λ w. w.2 ∙ sym (less_off _ _ w.0.taken)) (λ w. w.1 ∙ sym (less_kept _ _ w.0.left)) c.if-h-ge256.branch
+small : (c : Joined-h-ge256) → ((i : ℕ) → Fits w8 (get_or c.args.name.now i 0)) → c.if-n-gt1.h < 4096
+small c b =
+    let s = c.args.name.now in
+    elim c.if-n-gt1.branch [
+      | then-n-gt1 w ↦ omega (arith, w.h-is, b (length s - 1), b (length s - 2))
+      | else-n-gt1 w ↦ omega (arith, w.h-is, b (length s - 1))
+    ]
 
 -- With the last one it is the hash.
 ended :
-    (c : Joined-h-ge256) (r : ℕ) → r ≡ less_by 128 c.if-h-ge256.h
-    → (r ≡ hash_of (bytes c)) × (r < 128)
+    (c : Joined-h-ge256) → ((i : ℕ) → Fits w8 (get_or c.args.name.now i 0)) → (r : ℕ) → r ≡ less_by 128 c.if-h-ge256.h
+    → (r ≡ hash_of c.args.name.now) × (r < 128)
 unfolding hash_of
-ended c r e =
-    let one = c in
-    let s = bytes one in
-    let whole : r ≡ hash_of s = cc (less-4 c, less-3 c, less-2 c, less-1 c, two one) in
-    (whole, rw whole (hash_below s (rw (← two one) (small one))))
+ended c b r e =
+    let s = c.args.name.now in
+    let e1 : c.if-h-ge2048.h ≡ less_by 2048 c.if-n-gt1.h =
+    elim c.if-h-ge2048.branch [
+      | then-h-ge2048 w ↦ w.h-is ∙ sym (less_off _ _ w.if-h-ge2048.true)
+      | else-h-ge2048 w ↦ w.h-is ∙ sym (less_kept _ _ w.if-h-ge2048.false)
+    ] in
+    let e2 : c.if-h-ge1024.h ≡ less_by 1024 c.if-h-ge2048.h =
+    elim c.if-h-ge1024.branch [
+      | then-h-ge1024 w ↦ w.h-is ∙ sym (less_off _ _ w.if-h-ge1024.true)
+      | else-h-ge1024 w ↦ w.h-is ∙ sym (less_kept _ _ w.if-h-ge1024.false)
+    ] in
+    let e3 : c.if-h-ge512.h ≡ less_by 512 c.if-h-ge1024.h =
+    elim c.if-h-ge512.branch [
+      | then-h-ge512 w ↦ w.h-is ∙ sym (less_off _ _ w.if-h-ge512.true)
+      | else-h-ge512 w ↦ w.h-is ∙ sym (less_kept _ _ w.if-h-ge512.false)
+    ] in
+    let e4 : c.if-h-ge256.h ≡ less_by 256 c.if-h-ge512.h =
+    elim c.if-h-ge256.branch [
+      | then-h-ge256 w ↦ w.h-is ∙ sym (less_off _ _ w.if-h-ge256.true)
+      | else-h-ge256 w ↦ w.h-is ∙ sym (less_kept _ _ w.if-h-ge256.false)
+    ] in
+    let whole : r ≡ hash_of s = cc (e, e4, e3, e2, e1, two c) in
+    (whole, rw whole (hash_below s (rw (← two c) (small c b))))
 
 pub returns-then-h-ge128 : goal.returns-then-h-ge128
-returns-then-h-ge128 c = ended (goal.at.returns-then-h-ge128 c).Joined-h-ge256 _ (sym (less_off _ _ c.if-h-ge128.true))
+returns-then-h-ge128 c = ended (goal.at.returns-then-h-ge128 c).Joined-h-ge256 c.type_inv.name _ (sym (less_off _ _ c.if-h-ge128.true))
 
 pub returns-else-h-ge128 : goal.returns-else-h-ge128
-returns-else-h-ge128 c = ended (goal.at.returns-else-h-ge128 c).Joined-h-ge256 _ (sym (less_kept _ _ c.if-h-ge128.false))
+returns-else-h-ge128 c = ended (goal.at.returns-else-h-ge128 c).Joined-h-ge256 c.type_inv.name _ (sym (less_kept _ _ c.if-h-ge128.false))

@@ -5,7 +5,7 @@ use native.Mathlib.Omega.{arith}
 use Rattle.grammar.specs.Bytes.{same}
 use Rattle.starting_operators.specs.Starting.{start_name, start_count}
 use Rattle.starting_operators.proofs.Numbers.{computed_count, first_number}
-use Rattle.starting_operators.proofs.NameSizes.{name_sizes, name_within, name_part, none_before, none_among, none_yet}
+use Rattle.starting_operators.proofs.NameSizes.{name_part, none_before, none_among}
 use Rattle.starting_operators.proofs.number.among.Goals as goal
 use Rattle.starting_operators.proofs.number.among.Goals.{After-equal, In-loop-k}
 
@@ -16,11 +16,6 @@ loop-k-init c = none_before _ c.requires
 looked : (c : In-loop-k) → c.loop-k.k < start_count
 looked c = let r = c.requires in omega arith
 
-pub slice_bounds-equal-end : goal.slice_bounds-equal-end
-slice_bounds-equal-end c =
-    let o = c.operator-o.ensures in
-    omega (arith, name_within o, o.sized, name_sizes _ (looked (goal.at.slice_bounds-equal-end c).In-loop-k))
-
 compared : (c : After-equal) → c.equal.result ≡ same c.args.name.now (start_name c.loop-k.k)
 compared c = c.equal.ensures ∙ ap (same _) (name_part c.operator-o.ensures)
 
@@ -29,10 +24,6 @@ returns-then-equal c =
     let h = looked (goal.at.returns-then-equal c).In-loop-k in
     let e = sym (compared (goal.at.returns-then-equal c).After-equal) ∙ c.if-equal.true in
     sym (first_number _ _ h (λ j l. c.loop-k.invariant j l (omega arith)) e)
-
-pub loop-k-preserved : goal.loop-k-preserved
-loop-k-preserved c =
-    none_yet _ _ c.loop-k.invariant (sym (compared (goal.at.loop-k-preserved c).After-equal) ∙ c.if-equal.false)
 
 pub returns : goal.returns
 unfolding computed_count

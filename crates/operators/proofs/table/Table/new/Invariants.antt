@@ -1,11 +1,7 @@
 -- The entries of the first `k` operators stand in the words, with their hints; those of all are the table of the starting operators.
-use mathlib.Core.Path.{◌≡◌, sym}
-use Prim.Native.Nat.{◌-◌, ◌≤◌, ◌<◌}
-use native.Mathlib.Omega.{arith}
-use borrow.Author.Rules.{rules}
+use Prim.Native.Nat.{◌-◌, ◌≤◌}
 use Rattle.starting_operators.specs.Starting.{start_count}
-use Rattle.starting_operators.proofs.Numbers.{computed_count}
-use Rattle.operators.proofs.Starts.{StartedTo, none_started, next_started, starting}
+use Rattle.operators.proofs.Starts.{StartedTo}
 use Rattle.operators.proofs.table.Table.new.Given as goal
 
 abbrev pub invariant-loop-k : goal.invariant-loop-k
