@@ -72,6 +72,12 @@ module _ (text : List ℕ) (call : Call) (b : ℕ) where
       → (Digits s l ≡ after text call b) × (t ≡ text_after text call b)
   first_step s f l t e h g p q = (rw (p, g, e, ne_eqb b 45 h, after) refl, rw (q, g, e, ne_eqb b 45 h, text_after) refl)
 
+  pub behind_dash : (s : Service) → call ≡ Dash s → (Bad ≡ after text call b) × (text ≡ text_after text call b)
+  behind_dash s e = rw e (refl, refl)
+
+  pub bad_step : call ≡ Bad → (Bad ≡ after text call b) × (text ≡ text_after text call b)
+  bad_step e = rw e (refl, refl)
+
 -- The line `call` at its end.
 module _ (call : Call) (s : Service) (l : Line) (e : call ≡ Digits s l) where
   pub text_ended : hex.is_text l ≡ true → Text s l.kept ≡ requested call

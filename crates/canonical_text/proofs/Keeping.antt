@@ -1,4 +1,5 @@
 -- The row of tokens between turns of the loop over operators, and what a turn does to it by the kind of the token.
+use Rattle.rows.proofs.Fields.{within}
 use mathlib.Core.Path.{◌≡◌, refl, sym, ap, ◌∙◌}
 use mathlib.Core.Bool.{false}
 use mathlib.Core.List.{List}
@@ -9,7 +10,7 @@ use Rattle.grammar.specs.Bytes.{Bytes}
 use Rattle.grammar.specs.Operator.{Table}
 use Rattle.grammar.specs.SpanTree.{on_left, on_right, role_over}
 use Rattle.grammar.specs.Tree.{Tree, node, flat, span_tree}
-use Rattle.rows.specs.Fields.{field, kind, closer, size, arrival}
+use Rattle.rows.specs.Fields.{Within, field, kind, closer, size, arrival}
 use Rattle.canonical_text.specs.Brackets.{stays, TreeAt, OperatorAt, kept_pair, kept_beside, Keepable, KeptRow}
 use Rattle.canonical_text.proofs.TreeRows.{left_at, right_at, tree_kept, operator_arrives}
 use Rattle.canonical_text.proofs.Pairs.{pair_long, pair_fields, pair_small}
@@ -59,6 +60,12 @@ module _ {K R O : List ℕ} {n : ℕ} {T : Table} {t : Tree} (h : Keepable K R O
     pub keeping_tree : TreeAt K' R O n T 0 t
     keeping_tree =
         tree_kept K K' R (λ j. v.fields 0 j (omega arith) (λ e. omega arith)) (λ j. v.fields 3 j (omega arith) (λ e. omega arith)) v.long h.tree
+
+    pub in_tokens_lem : at < n → Within 4 K' at
+    in_tokens_lem l = within 4 n K' at keeping_tree.rows.0 l
+
+    pub in_roles : at < n → Within 4 R at
+    in_roles l = within 4 n R at h.tree.rows.1 l
 
     -- The row after a turn.
     abbrev Next : ℕ → List ℕ → Type 0

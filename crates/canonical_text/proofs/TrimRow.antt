@@ -1,5 +1,6 @@
 -- The row between turns of the loop that trims: tokens passed have what they leave, the others are as they were.
-use mathlib.Core.Path.{◌≡◌, sym, ap, ap₂, ◌∙◌}
+use Rattle.rows.proofs.Fields.{within}
+use mathlib.Core.Path.{refl, ◌≡◌, sym, ap, ap₂, ◌∙◌}
 use mathlib.Core.List.{List}
 use Prim.Native.Nat.{ℕ, suc, ◌+◌, ◌-◌, ◌*◌, ◌≤◌, ◌<◌}
 use native.Mathlib.Omega.{arith}
@@ -7,7 +8,7 @@ use lib.ListN.{length, drop, length-take, length-drop}
 use Rattle.grammar.specs.Canonical.{spaced_pieces}
 use Rattle.grammar.specs.Bytes.{Bytes}
 use Rattle.grammar.proofs.Logic.{below}
-use Rattle.rows.specs.Fields.{field, start, size, Holds}
+use Rattle.rows.specs.Fields.{Within, field, start, size, Holds}
 use Rattle.rows.specs.Tokens.{written_of}
 use Rattle.canonical_text.specs.Pieces.{before, parts}
 use Rattle.canonical_text.specs.Trimming.{leaves, part_of, Trimmable, Trimmed, TrimmedRow}
@@ -21,6 +22,21 @@ module _ (text : Bytes) (R K K' : List ℕ) (i : ℕ) (same : (k : ℕ) → k < 
   part_same : part_of text R K' i ≡ part_of text R K i
   part_same = ap₂ (leaves R i) (same 0 (omega arith)) written_same
 
+  trimmable_same : length K' ≡ length K → Trimmable text R K i → Trimmable text R K' i
+  trimmable_same e h =
+      let k = same 0 (omega arith) in
+      let s = same 1 (omega arith) in
+      let z = same 2 (omega arith) in
+      record {
+        short = h.short;
+        token = (h.token.0, omega (arith, h.token.1));
+        roles = h.roles;
+        within = rw (s, z) h.within;
+        number = rw (k, z) h.number;
+        name = rw (k, s, z) h.name;
+        quoted = rw (k, s, z) h.quoted;
+      }
+
 pub record TrimmedTo (text : Bytes) (R K : List ℕ) (n at total : ℕ) (K' : List ℕ) : Type 0 where
   pub upto : at ≤ n
   pub long : length K' ≡ length K
@@ -31,12 +47,31 @@ pub record TrimmedTo (text : Bytes) (R K : List ℕ) (n at total : ℕ) (K' : Li
       total + length (spaced_pieces (parts (part_of text R K) at (n - at))) ≡ length (spaced_pieces (parts (part_of text R K) 0 n))
   pub small : total ≤ 16385 * at
 
+pub trimming_start : {text : Bytes} {R K : List ℕ} {n : ℕ} → TrimmedTo text R K n 0 0 K
+trimming_start {text} {R} {K} {n} =
+    let e : n - 0 ≡ n = omega arith in
+    record {
+      upto = omega arith;
+      long = refl;
+      later = λ k j l m. refl;
+      left = λ j l. absurd (omega arith);
+      within = λ j l. absurd (omega arith);
+      sum = rw e (omega arith);
+      small = omega arith;
+    }
+
 module _ {text : Bytes} {R K : List ℕ} {n : ℕ} (rows : Holds 4 K n) (h : (j : ℕ) → j < n → Trimmable text R K j) where
   module _ {at total : ℕ} {K' : List ℕ} (v : TrimmedTo text R K n at total K') where
     module _ (l : at < n) where
+      pub here_trimmable : Trimmable text R K' at
+      here_trimmable = trimmable_same text R K K' at (λ k m. v.later k at m (omega arith)) v.long (h at l)
+
       module _ {K'' : List ℕ} (t : Trimmed text R K' at K'') where
         left_here : written_of text K'' at ≡ part_of text R K at
         left_here = t.part ∙ part_same text R K K' at (λ k m. v.later k at m (omega arith))
+
+        pub in_row : Within 4 K'' at
+        in_row = let w = within 4 n K at rows l in (w.0, omega (arith, t.long, v.long, w.1))
 
         sized_here : size K'' at ≡ length (part_of text R K at)
         sized_here =

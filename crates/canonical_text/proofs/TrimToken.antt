@@ -1,6 +1,6 @@
 -- What a token leaves, and the row with that for its bytes: a number's digits behind its zeros, a quoted name with its quotes or without
 -- them, any other token as it is.
-use mathlib.Core.Path.{◌≡◌, refl, sym, ap, ◌∙◌}
+use mathlib.Core.Path.{subst, ◌≡◌, refl, sym, ap, ◌∙◌}
 use mathlib.Core.Bool.{Bool, true, false}
 use mathlib.Core.List.{List, [], ◌∷◌, ◌++◌}
 use Prim.Native.Nat.{ℕ, ◌+◌, ◌-◌, ◌≤◌, ◌<◌}
@@ -14,7 +14,7 @@ use Rattle.byte_strings.proofs.Suffixes.{part_whole}
 use Rattle.rows.specs.Fields.{field, store, kind, start, size, Within}
 use Rattle.rows.specs.Tokens.{written_of}
 use Rattle.rows.proofs.Fields.{store_same, other-field, other_entry, store_length}
-use Rattle.canonical_text.specs.Trimming.{stays_quoted, leaves, part_of, Trimmable, with_bytes, Trimmed}
+use Rattle.canonical_text.specs.Trimming.{IsName, stays_quoted, leaves, part_of, Trimmable, with_bytes, Trimmed}
 
 -- By the kind of the token.
 module _ (R : List ℕ) (i : ℕ) {k : ℕ} (c : Bytes) where
@@ -82,6 +82,12 @@ module _ {text : Bytes} {R K : List ℕ} {i : ℕ} (h : Trimmable text R K i) wh
   module _ (s n : ℕ) (d : s ≡ start K i) (e : n ≡ size K i) where
     cut_is : take (s + n - s) (drop s text) ≡ written_of text K i
     cut_is = part_whole text s n ∙ rw (d, e)
+
+    pub number_cut : kind K i ≡ 2 → 1 ≤ length (take (s + n - s) (drop s text))
+    number_cut k = omega (arith, ap length cut_is, written_long, h.number k)
+
+    pub name_cut : kind K i ≡ 3 → IsName (take (s + n - s) (drop s text))
+    name_cut k = subst IsName (sym cut_is) (h.name k)
 
     pub cut_short : {z : ℕ} → z < length (take (s + n - s) (drop s text)) → z < n
     cut_short l = omega (arith, ap length cut_is, written_long)

@@ -1,5 +1,6 @@
 -- The parts of tokens written one behind the other over the front of a buffer: the first has no space before it, and bytes have been
 -- written exactly where a part has.
+use Rattle.rows.proofs.Fields.{within}
 use mathlib.Core.Path.{◌≡◌, refl, sym, ap, ◌∙◌}
 use mathlib.Core.List.{List, [], ◌∷◌, ◌++◌}
 use Prim.Native.Nat.{ℕ, zero, suc, ◌+◌, ◌-◌, ◌≤◌, ◌<◌}
@@ -13,7 +14,7 @@ use Rattle.grammar.specs.Answer.{over}
 use Rattle.byte_strings.specs.Puts.{Put}
 use Rattle.byte_strings.proofs.Suffixes.{part_whole}
 use Rattle.byte_strings.proofs.Puts.{sets_then, sets_over}
-use Rattle.rows.specs.Fields.{start, size}
+use Rattle.rows.specs.Fields.{Within, start, size}
 use Rattle.rows.specs.Tokens.{written_of}
 use Rattle.canonical_text.specs.Pieces.{pieces, behind, InText}
 use Rattle.canonical_text.proofs.Parts.{before_none, before_some, parts_end, parts_next}
@@ -75,6 +76,9 @@ module _ {text : Bytes} {K : List ℕ} {to : ℕ} (h : InText text K to) where
   module _ {i : ℕ} (l : i < to) where
     long_here : length (written_of text K i) ≡ size K i
     long_here = length-take (size K i) (drop (start K i) text) ∙ omega (arith, h.within i l, length-drop (start K i) text)
+
+    pub in_row : Within 4 K i
+    in_row = within 4 to K i h.rows l
 
     -- The part cut out of the text.
     pub cut_here : {s z : ℕ} → s ≡ start K i → z ≡ size K i → take (s + z - s) (drop s text) ≡ written_of text K i

@@ -35,7 +35,7 @@ use Rattle.pairing.specs.declared.Paired.TheVariants as Pair
 use Rattle.pairing.proofs.TokenKinds.{nesting_by_kinds}
 use Rattle.pairing.proofs.Atoms.{paired_atoms}
 use Rattle.pairing.proofs.Blocks.{no_block}
-use Rattle.resolving.specs.Resolving.{Resolves, Resolving}
+use Rattle.resolving.specs.Resolving.{Ranged, Resolves, Resolving}
 use Rattle.resolving.specs.declared.Resolved.{Resolved}
 use Rattle.resolving.specs.declared.Resolved.TheVariants as Resolve
 use Rattle.checks.specs.declared.Checked.TheVariants.{Blank, Refused}
@@ -241,6 +241,18 @@ module _ {text : Bytes} {K R O : List ℕ} {n : ℕ} {nested : Bool} (m : Matche
 
   pub own_tokens : range text K 0 n ≡ tokens_of own
   own_tokens = ap (λ j. range text K 0 j) m.scanned.counted ∙ stored_tokens m.scanned.stored
+
+  pub ranged : Ranged text K R 0 n
+  ranged =
+      record {
+        placed = own;
+        stored = m.scanned.stored;
+        short = m.scanned.short;
+        within = omega (arith, m.scanned.counted);
+        tokens = rw (← m.scanned.counted) m.scanned.tokens;
+        roles = rw (← m.scanned.counted) m.scanned.roles;
+        paired = m.paired;
+      }
 
   abbrev blocks : Outcome (Unit {0})
   blocks = check_blocks (suc n) start_table 0 (tokens_of own)

@@ -23,6 +23,11 @@ use Rattle.climb.specs.Searched.{span_mark}
 use Rattle.climb.proofs.Roles.{fit_fixity, fit_root}
 use Rattle.climb.proofs.Waiting.{mark_shows}
 
+-- No role is a number of a role, too.
+pub none_is_role : IsRole 0
+unfolding role_of role_code
+none_is_role = (refl, tt)
+
 module _ (R : List ℕ) (i l q k : ℕ) where
   at_front : eqb l 0 ≡ true → arrives_at R i l q k ≡ fits_prefix (role_of (prefix R i)) (role_of k)
   unfolding arrives_at

@@ -27,7 +27,7 @@ use Rattle.operators.specs.declared.table.Found.TheVariants.{At, Nothing}
 use Rattle.operators.specs.declared.table.Table.{Table}
 use Rattle.operators.proofs.Lookups.{table-count, unfound_role, unfound_count, declared-permitted, cleared_permitted}
 use Rattle.declaration_part.specs.Walking.{second_begin}
-use Rattle.declaration_part.specs.Parsing.{Parses}
+use Rattle.declaration_part.specs.Parsing.{Parsable, Parses}
 use Rattle.declaration_part.proofs.TokenPlaces.{second_behind}
 use Rattle.declaration_part.specs.declared.parse.Parsed.TheVariants.{Unfit}
 use Rattle.declaring.specs.declared.Declared.TheVariants.{Passed, Refused}
@@ -122,6 +122,19 @@ module _
 
     abbrev operators : G.Table
     operators = table_of text t
+
+    -- What reading a declaration asks.
+    pub parsable : at < c → Parsable text K at c before
+    parsable l =
+        record {
+          placed = inv.placed;
+          stored = inv.stored;
+          short = inv.short;
+          room = inv.room;
+          ordered = l;
+          within = inv.within;
+          begins = inv.begins;
+        }
 
     pub unfit_stops : at < c → (m : ℕ) → Parses K at (declaration (range text K at c)) (Unfit m) → answer text K i c t₀ ≡ refused 8 m
     unfit_stops l m s = inv.answered ∙ unfit_at text K c inv.placed inv.stored inv.within at l operators m s

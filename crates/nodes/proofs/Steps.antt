@@ -130,6 +130,13 @@ module _ {M : Rows} {N N₁ : List ℕ} {from at to base n : ℕ} (h : Buildable
   pub built_counts : 1 ≤ n
   built_counts = omega (arith, w.counted h.places h.table h.tree h.stands, (stands-root h.places M h.stands).0)
 
+  pub built_length : length N₁ ≡ length N
+  built_length =
+      let s = h.stands in
+      let l = stands-size h.places M s base in
+      ap length (w.written h.places h.table h.tree s)
+      ∙ over-length (words h.places h.table h.tree from base) N (omega (arith, h.room))
+
 -- The first part is there or not.
 module _ {M : Rows} {N : List ℕ} {from at to base : ℕ} where
   pub first_missing : first_part M.tokens M.roots from at ≡ Nothing → FirstBuilt M from at to N base N 0

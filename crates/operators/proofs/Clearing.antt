@@ -1,10 +1,14 @@
 -- An operator taken out: the words of the entries behind it stand five places further down, one entry each. So each entry has the words of
 -- one that was there, and the list is the former one without the operator.
-use mathlib.Core.Path.{◌≡◌, sym, ap, ◌∙◌}
+use borrow.Author.Tests.{ltb-true, ltb-false}
+use lib.Seq.{get_or-set_same, get_or-set_other}
+use lib.Dec.{ltb}
+use mathlib.Core.Bool.{Bool, true, false}
+use mathlib.Core.Path.{refl, ◌≡◌, sym, ap, ◌∙◌}
 use mathlib.Core.List.{List, [], ◌∷◌}
 use Prim.Native.Nat.{ℕ, suc, ◌+◌, ◌*◌, ◌≤◌, ◌<◌}
 use native.Mathlib.Omega.{arith}
-use lib.ListN.{length, get_or}
+use lib.ListN.{length-set, set, length, get_or}
 use Rattle.grammar.specs.Bytes.{Bytes}
 use Rattle.grammar.specs.Operator.{remove_roles, Distinct, Alive}
 use Rattle.grammar.specs.Operator as G
@@ -23,6 +27,31 @@ pub record Moved (xs : List ℕ) (at n : ℕ) (ys : List ℕ) : Type 0 where
   pub front : (j : ℕ) → j < at → get_or ys j 0 ≡ get_or xs j 0
   pub moved : (j : ℕ) → at ≤ j → j < n → get_or ys j 0 ≡ get_or xs (j + 5) 0
   pub rest : (j : ℕ) → n ≤ j → get_or ys j 0 ≡ get_or xs j 0
+
+-- One more place.
+pub moved_next :
+    (xs : List ℕ) (at k : ℕ) (ys : List ℕ) → Moved xs at k ys → at ≤ k → k < length xs
+    → Moved xs at (k + 1) (set ys k (get_or ys (k + 5) 0))
+moved_next xs at k ys m h l =
+    record {
+      long = length-set ys k (get_or ys (k + 5) 0) ∙ m.long;
+      front = λ j a. other j (λ e. omega arith) ∙ m.front j a;
+      moved = λ j a b. go j a (ltb j k) refl b;
+      rest = λ j a. other j (λ e. omega arith) ∙ m.rest j (omega arith);
+    }
+  where
+    other : (j : ℕ) → (j ≡ k → ⊥) → get_or (set ys k (get_or ys (k + 5) 0)) j 0 ≡ get_or ys j 0
+    other j e = get_or-set_other ys k j (get_or ys (k + 5) 0) 0 e
+
+    go :
+        (j : ℕ) → at ≤ j → (b : Bool) → ltb j k ≡ b → j < k + 1
+        → get_or (set ys k (get_or ys (k + 5) 0)) j 0 ≡ get_or xs (j + 5) 0
+    go j a true e b = let q = ltb-true j k e in other j (λ e. omega arith) ∙ m.moved j a q
+    go j a false e b =
+        let q = ltb-false j k e in
+        let p : j ≡ k = omega arith in
+        let w = m.long in
+        rw p (get_or-set_same ys k (get_or ys (k + 5) 0) 0 (omega arith) ∙ m.rest (k + 5) (omega arith))
 
 -- The laws of declarations, of one that clears.
 distinct_removed : (m : Bytes) (T : G.Table) → Distinct T → Distinct (remove_roles m T)

@@ -1,12 +1,12 @@
 -- Roles by their numbers: what the tests of the overloading rule come to as tests of numbers.
 -- Each law is by cases on where the number lies, or on whether there is a role.
-use mathlib.Core.Path.{◌≡◌, refl}
+use mathlib.Core.Path.{sym, ◌∙◌, ◌≡◌, refl}
 use mathlib.Core.Bool.{Bool, true, false, not, and-true, and-false}
 use mathlib.Core.Option.{Option, none, some}
 use Prim.Native.Nat.{ℕ, ◌≤◌, ◌<◌}
 use native.Mathlib.Omega.{arith}
 use lib.Dec.{eqb, ltb, leb}
-use borrow.Author.Tests.{lt-ltb, le-ltb, le-leb, lt-leb, eqb-true, eqb-false, eq-eqb, ne_eqb}
+use borrow.Author.Tests.{not-true, not-false, lt-ltb, le-ltb, le-leb, lt-leb, eqb-true, eqb-false, eq-eqb, ne_eqb}
 use Rattle.grammar.specs.Operator.{
   Prefix,
   Infix,
@@ -30,6 +30,13 @@ use Rattle.grammar.specs.Coded.{fixity_of}
 use Rattle.grammar.specs.SpanTree.{root_precedence}
 use Rattle.rows.specs.Codes.{role_of, roles_of}
 use Rattle.rows.proofs.Codes.{no_role, left-role, non_role, right-role, number_cases, some_role}
+
+-- A test that was made, and negated.
+pub failed : {r x : Bool} → r ≡ x → not r ≡ true → x ≡ false
+failed e d = sym e ∙ not-true _ d
+
+pub held : {r x : Bool} → r ≡ x → not r ≡ false → x ≡ true
+held e d = sym e ∙ not-false _ d
 
 -- The fixity of a number.
 pub infix_number : (f : ℕ) → f ≡ 1 → fixity_of f ≡ Infix

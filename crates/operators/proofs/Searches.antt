@@ -3,18 +3,18 @@
 use mathlib.Core.Path.{◌≡◌, refl, sym, ap, ◌∙◌}
 use mathlib.Core.Bool.{Bool, true, false}
 use mathlib.Core.List.{List, ◌∷◌}
-use Prim.Native.Nat.{ℕ, zero, suc, ◌+◌, ◌-◌, ◌<◌}
+use Prim.Native.Nat.{◌^◌, ℕ, zero, suc, ◌+◌, ◌-◌, ◌<◌}
 use native.Mathlib.Omega.{arith}
 use lib.ListN.{get_or}
 use borrow.Author.Tests.{eq-eqb}
 use Rattle.grammar.specs.Fault.{longest_text}
 use Rattle.grammar.specs.Bytes.{Bytes, same}
 use Rattle.grammar.specs.Operator.{Operator}
-use Rattle.grammar.proofs.Logic.{same_eq}
+use Rattle.grammar.proofs.Logic.{below, same_eq}
 use Rattle.rows.specs.Codes.{roles_of}
 use Rattle.starting_operators.specs.Starting.{start_number, start_name}
-use Rattle.starting_operators.proofs.Numbers.{named_start}
-use Rattle.operators.specs.Entries.{word, name_start, name_size, name_at, coded_find, operators_from, table_of, hash_of, Sound}
+use Rattle.starting_operators.proofs.Numbers.{start_few, named_start}
+use Rattle.operators.specs.Entries.{Stands, word, name_start, name_size, name_at, coded_find, operators_from, table_of, hash_of, Sound}
 use Rattle.operators.specs.declared.table.Found.{Found}
 use Rattle.operators.specs.declared.table.Found.TheVariants.{At, Nothing}
 use Rattle.operators.specs.declared.table.Table.{Table}
@@ -58,6 +58,19 @@ module _ (text : Bytes) (t : Table) where
     found_named name k h e =
         find_place text t.words name 0 t.count
         ∙ place_at name (entry text t.words) 0 t.count k (rw table_entries at sound.distinct) (omega arith) (omega arith) e
+
+    -- A name lies within the text or is a starting operator's.
+    pub sound_stands : (j : ℕ) → j < t.count → Stands text (name_start t.words j) (name_size t.words j)
+    sound_stands j h = (sound.in_text j h, sound.at_start j h)
+
+    -- So it begins at a number of the machine's own size.
+    pub start_below : (j : ℕ) → j < t.count → name_start t.words j < 2 ^ 64
+    start_below j h =
+        below
+        (name_start t.words j)
+        longest_text
+        (λ l. omega arith)
+        (λ l. let (k, s) = sound.at_start j h l in omega (arith, start_few))
 
     -- .. and a name for whose hash there is no hint is not.
     pub unhinted : (name : Bytes) → get_or t.hints (hash_of name) 0 ≡ 0 → Finds name Nothing

@@ -1,9 +1,11 @@
 -- Laws of a table's words, each for one turn of a loop: the name at an entry, the search of a name, a test of every operator.
 -- They unfold the definitions of `Entries` once.
+use Rattle.starting_operators.proofs.NameSizes.{name_sizes}
+use Rattle.starting_operators.proofs.Numbers.{start_few}
 use mathlib.Core.Path.{◌≡◌, sym, ap}
 use mathlib.Core.Bool.{Bool, true, false}
 use mathlib.Core.List.{List}
-use Prim.Native.Nat.{ℕ, suc, ◌+◌, ◌-◌, ◌≤◌, ◌<◌}
+use Prim.Native.Nat.{◌^◌, ℕ, suc, ◌+◌, ◌-◌, ◌≤◌, ◌<◌}
 use native.Mathlib.Numerals.{add-one}
 use native.Mathlib.Omega.{arith}
 use lib.ListN.{length, take, drop, length-take, length-drop}
@@ -33,6 +35,15 @@ module _ (text : Bytes) (start size : ℕ) where
       (λ h. rw (name_in_text h) (simp (length-take, length-drop) (omega (arith, p h))))
       (λ h. rw (name_at_start h) (sym (q h).1))
 
+  -- So it ends at a number of the machine's own size.
+  pub name_end : Stands text start size → length text < 2 ^ 64 → start + size < 2 ^ 64
+  name_end (p, q) a =
+      below start longest_text (λ h. omega (arith, p h)) (λ h. let (k, s) = q h in omega (arith, start_few, name_sizes _ k))
+
+-- Looking for a name: from the first entry on ..
+pub find_all : (text : Bytes) (W : List ℕ) (name : Bytes) (n : ℕ) → coded_find text W name 0 n ≡ coded_find text W name 0 (n - 0)
+find_all text W name n = ap (coded_find text W name 0) (omega arith)
+
 -- Looking for a name: there is none behind the last entry; ..
 pub find_none : (text : Bytes) (W : List ℕ) (name : Bytes) (i n : ℕ) → n ≤ i → coded_find text W name i (n - i) ≡ Nothing
 unfolding coded_find
@@ -56,6 +67,9 @@ module _ (q : Roles → Bool) (text W : List ℕ) where
   pub every_end : (i n : ℕ) → n ≤ i → every_operator q (operators_from text W i (n - i)) ≡ true
   unfolding every_operator operators_from
   every_end i n h = let k : n - i ≡ 0 = omega arith in rw (k, operators_from)
+
+  pub every_all : (n : ℕ) → every_operator q (operators_from text W 0 n) ≡ every_operator q (operators_from text W 0 (n - 0))
+  every_all n = ap (λ k. every_operator q (operators_from text W 0 k)) (omega arith)
 
   module _ (i n : ℕ) (h : i < n) where
     pub every_not :

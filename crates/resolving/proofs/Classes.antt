@@ -105,6 +105,9 @@ module _ {text : Bytes} {K R : List ℕ} {i to : ℕ} (g : Ranged text K R i to)
   pub stands : i < length g.placed
   stands = omega (arith, g.within)
 
+  pub token_within : Within 4 K i
+  token_within = within 4 (length g.placed) K i g.tokens stands
+
   pub roles_within : Within 4 R i
   roles_within = within 4 (length g.placed) R i g.roles stands
 

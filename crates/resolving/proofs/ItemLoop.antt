@@ -27,7 +27,7 @@ use Rattle.resolving.specs.declared.Resolved.{Resolved}
 use Rattle.resolving.specs.declared.Resolved.TheVariants.{Passed, Refused}
 use Rattle.resolving.specs.Resolving.{Ranged, end_of, AtomNoted, Resolves, Resolving}
 use Rattle.resolving.proofs.Bodies.{BlockResolves, BlockResolving}
-use Rattle.rows.proofs.Noting.{kept_join, noted_kept}
+use Rattle.rows.proofs.Noting.{kept_none, kept_join, noted_kept}
 
 -- A row with the same words from token `from` to token `to`.
 abbrev pub SameWords : List ℕ → ℕ → ℕ → List ℕ → Type 0
@@ -99,6 +99,9 @@ module _ (text : Bytes) (K : List ℕ) (T : Table) (from to : ℕ) where
     pub checked : (k : ℕ) → to - from ≤ k → checks k from ≡ checks k i
     pub agreed : (M : List ℕ) → SameWords R from i M → Agrees text K M T i to → Agrees text K M T from to
     pub kept : KeptOutside R₀ from to R
+
+  pub begins : (R : List ℕ) → Paired K from to → Progress R from R
+  begins R p = record { low = omega arith; paired = p; checked = λ k l. refl; agreed = λ M s a. a; kept = kept_none R from to }
 
 module _ {text : Bytes} {K : List ℕ} {T : Table} {from to : ℕ} {R₀ : List ℕ} {i : ℕ} {R : List ℕ} (inv : Progress text K T from to R₀ i R) where
   abbrev part : ℕ → ℕ → List Token

@@ -78,6 +78,10 @@ abbrev pub before_all : List Placed → Outcome (List Placed) → Outcome (List 
 before_all ps (refused k p) = refused k p
 before_all ps (passed qs) = passed (ps ++ qs)
 
+pub before_none : (o : Outcome (List Placed)) → o ≡ before_all [] o
+before_none (refused k p) = refl
+before_none (passed qs) = refl
+
 pub before_one : (ps : List Placed) (p : Placed) (o : Outcome (List Placed)) → before_all ps (before p o) ≡ before_all (ps ++ p ∷ []) o
 unfolding before
 before_one ps p (refused k a) = refl

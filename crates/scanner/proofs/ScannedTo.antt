@@ -23,7 +23,7 @@ use Rattle.scanner.specs.declared.fronts.Front.{Front}
 use Rattle.scanner.specs.declared.fronts.Front.TheVariants as Found
 use Rattle.scanner.specs.declared.scan.Scanned.TheVariants as Answer
 use Rattle.scanner.specs.Scanning.{Fronts, Scannable, Storable, TokenStored, Stores, Scans}
-use Rattle.scanner.proofs.ScanSteps.{at_place, scan-blank, scan_wrong, scan_full, scan_token, scan_none, before_all, before_one}
+use Rattle.scanner.proofs.ScanSteps.{before_none, at_place, scan-blank, scan_wrong, scan_full, scan_token, scan_none, before_all, before_one}
 
 -- A field of the first entries of a row is that of the tokens found.
 abbrev pub Held : ℕ → (Placed → ℕ) → List ℕ → List Placed → Type 0
@@ -91,6 +91,19 @@ pub record ScannedTo (text K : List ℕ) (n at : ℕ) (nested : Bool) : Type 0 w
   pub starts : Held 1 place_at K found
   pub sizes : Held 2 size_at K found
   pub plain : nested ≡ false → (j : ℕ) → j < n → kind K j ≤ 3
+
+pub begun : (text K : List ℕ) → ScannedTo text K 0 0 false
+begun text K = record {
+  found = [];
+  many = refl;
+  ahead = omega arith;
+  room = omega arith;
+  whole = before_none (scan most_tokens 0 text);
+  kinds = λ j h. absurd (omega arith);
+  starts = λ j h. absurd (omega arith);
+  sizes = λ j h. absurd (omega arith);
+  plain = λ e j h. absurd (omega arith);
+}
 
 module _ {text K : List ℕ} {n at : ℕ} {nested : Bool} (v : ScannedTo text K n at nested) where
   pub at_end : length text ≤ at → Scans text K (scan most_tokens 0 text) (Answer.Tokens n nested)

@@ -1,5 +1,5 @@
 -- What canonicalizing answers after checks 2 to 11 and 17: a refusal, nothing of a blank text, 13, or the canonical text.
-use mathlib.Core.Path.{◌≡◌, ap, ap₂, ◌∙◌}
+use mathlib.Core.Path.{sym, ◌≡◌, ap, ap₂, ◌∙◌}
 use mathlib.Core.Bool.{true, false, ◌&&◌}
 use mathlib.Core.List.{List}
 use Prim.Native.Nat.{ℕ, ◌≤◌, ◌<◌}
@@ -16,6 +16,10 @@ use Rattle.grammar.specs.Answer.{Reading, reading_text, answered, text_into, byt
 use Rattle.canonical_text.specs.Pieces.{Prepared, pieces}
 use Rattle.serving.specs.Serving.{result_of, refused_with, written, Canonicalizes}
 use Rattle.serving.specs.Found.{Found}
+
+-- The parts that are written are as long as was counted.
+pub parts-length : {text : Bytes} {K : List ℕ} {n : ℕ} {r : Reading} {total : ℕ} → Prepared text K n r total → length (join_pieces (pieces text K 0 n)) ≡ total
+parts-length p = ap length p.joined ∙ sym p.counted
 
 module _
     {text : Bytes} {K R O : List ℕ} {n k at : ℕ} (f : Found text K R O n k at) (K' B : List ℕ) (total : ℕ)

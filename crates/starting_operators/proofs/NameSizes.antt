@@ -2,10 +2,10 @@
 -- A name of another length is another name.
 use mathlib.Core.Path.{◌≡◌, refl, sym, ap}
 use mathlib.Core.Bool.{Bool, true, false, ◌&&◌, ◌||◌, not}
-use Prim.Native.Nat.{ℕ, ◌-◌, ◌≤◌, ◌<◌}
+use Prim.Native.Nat.{ℕ, ◌+◌, ◌-◌, ◌≤◌, ◌<◌}
 use native.Mathlib.Omega.{arith}
 use lib.Dec.{eqb, leb, ltb}
-use lib.ListN.{length, take}
+use lib.ListN.{length, take, length-take}
 use borrow.Author.Tests.{leb-true, ltb-true, eq-eqb}
 use Rattle.grammar.specs.Bytes.{Bytes, same}
 use Rattle.grammar.specs.Operator.{Operator}
@@ -29,6 +29,10 @@ name_sizes k h =
     let e : leb 1 (length (start_name k)) && leb (length (start_name k)) 3 ≡ true =
     each_start (λ k o. leb 1 (length o.name) && leb (length o.name) 3) refl k h in
     (leb-true _ _ (and_left _ _ e), leb-true _ _ (and_right (leb 1 (length (start_name k))) _ e))
+
+-- A name is a part of the bytes that stand in the code.
+pub name_within : {n : ℕ} {o : StartingOperator} → IsOperator n o → o.size ≤ length o.name
+name_within {n} {o} i = omega (arith, i.sized, simp length-take at (ap length i.named))
 
 -- A name is a part of the bytes that stand in the code.
 pub name_part : {n : ℕ} {o : StartingOperator} → IsOperator n o → take (o.size - 0) o.name ≡ start_name n
@@ -62,6 +66,9 @@ module _ (name : Bytes) where
     none_among k d h =
         none_number name (λ j l.
         below j k (λ b. d j b l) (λ b. other_length name (start_name j) (λ e. let p = r.all j l (sym e) in omega arith)))
+
+  pub none_yet : (k : ℕ) → NoneBefore k → same name (start_name k) ≡ false → NoneBefore (k + 1)
+  none_yet k d e j h l = below j k (λ b. d j b l) (λ b. let z : j ≡ k = omega arith in rw z e)
 
   -- A name of no such length.
   pub other_sizes : (1 ≤ length name → length name ≤ 3 → ⊥) → start_number name ≡ start_count

@@ -28,6 +28,18 @@ module _ {text : Bytes} {K R : List ℕ} {n : ℕ} (g : Notable text K R n) {i :
   pub roles_within : Within 4 R i
   roles_within = within 4 n R i g.roles h
 
+-- The rows are those of as many tokens when the row of roles is changed.
+pub notable_kept : {text : Bytes} {K R R' : List ℕ} {n : ℕ} → Notable text K R n → length R' ≡ length R → Notable text K R' n
+notable_kept g e =
+    record {
+      placed = g.placed;
+      stored = g.stored;
+      within = g.within;
+      flat = g.flat;
+      tokens = g.tokens;
+      roles = omega (arith, g.roles);
+    }
+
 -- A name, by the number that it has.
 module _ (name : Bytes) (R : List ℕ) (i : ℕ) (R' : List ℕ) (w : Within 4 R i) where
   module _ {n p q : ℕ} (e : n ≡ start_number name) (x : p ≡ role_code (start_roles n Prefix)) (y : q ≡ role_code (start_roles n Infix)) where
