@@ -1,4 +1,8 @@
 // Prints the listings of recorded cases: hexadecimal lines on standard input.
-fn main() {
-    service_lines::print_listings();
+#![tactic(auto)]
+
+use std::io;
+
+fn main(rt: HostRuntime) -> io::Result<()> {
+    service_lines::print_listings(&mut rt.stdin(), &mut rt.stdout())
 }

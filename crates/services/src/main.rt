@@ -1,4 +1,8 @@
 // Prints the answers of recorded calls of services: lines on standard input.
-fn main() {
-    service_lines::answer_calls();
+#![tactic(auto)]
+
+use std::io;
+
+fn main(rt: HostRuntime) -> io::Result<()> {
+    service_lines::answer_calls(&mut rt.stdin(), &mut rt.stdout())
 }

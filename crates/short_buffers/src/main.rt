@@ -1,11 +1,14 @@
 // Runs the services with buffers of several lengths, and says whether the words or bytes that must keep their contents do.
+#![tactic(auto)]
+
 ghost use Rattle.std.specs.Prelude.{◌≡◌, ℕ, ◌+◌, ◌≤◌, ◌<◌, length, get_or};
 ghost use Rattle.grammar.specs.Nodes.{words_per_node};
 ghost use Rattle.short_buffers.specs.Room.{room};
 
-use libc::STDOUT_FILENO;
 use nodes::node;
 use reader::Answer;
+use std::io;
+use std::io::Write;
 
 // The words of the table and the bytes of the buffer, of which parts are lent.
 const ROOM: usize = 40;
@@ -54,27 +57,32 @@ fn first_changed(words: &[u32], from: usize) -> usize
 }
 
 // Prints what a run gave: `len` is the buffer's length, and words from `kept` on must have kept their contents.
-fn report(text: &[u8], len: usize, unit: &[u8], word: &[u8], a: Answer, words: &[u32], kept: usize)
+fn report<W: Write>(
+    out: &mut W,
+    text: &[u8],
+    len: usize,
+    unit: &[u8],
+    word: &[u8],
+    a: Answer,
+    words: &[u32],
+    kept: usize,
+) -> io::Result<()>
     requires word_len_bound { length word.now ≤ 4 }
     requires words_len_bound { length words.now ≤ 56 }
 {
-    io::write_all(STDOUT_FILENO, text);
-    io::write_all(STDOUT_FILENO, b", ");
-    io::print_decimal(STDOUT_FILENO, len as u64);
-    io::write_all(STDOUT_FILENO, unit);
-    listing::print_answer(word, a);
+    out.write_all(text)?;
+    write!(out, ", {len}")?;
+    out.write_all(unit)?;
+    listing::print_answer(out, word, a)?;
     let changed = first_changed(words, kept);
     if changed == words.len() {
-        io::write_all(STDOUT_FILENO, b", rest unchanged\n");
-        return;
+        return out.write_all(b", rest unchanged\n");
     }
-    io::write_all(STDOUT_FILENO, b", changed at ");
-    io::print_decimal(STDOUT_FILENO, changed as u64);
-    io::write_all(STDOUT_FILENO, b"\n");
+    writeln!(out, ", changed at {changed}")
 }
 
 // Reads a text into the first `len` words of a table. A refusal has count 0, so then all words must keep their contents.
-fn read_into(text: &[u8], len: usize)
+fn read_into<W: Write>(out: &mut W, text: &[u8], len: usize) -> io::Result<()>
     requires { len ≤ room }
 {
     let mut bytes = [0u8; ROOM];
@@ -83,6 +91,7 @@ fn read_into(text: &[u8], len: usize)
     widen(&bytes, &mut table);
     let a = reader::read(text, &mut table[..len]);
     report(
+        out,
         text,
         len,
         b" words: ",
@@ -90,7 +99,7 @@ fn read_into(text: &[u8], len: usize)
         a,
         &table,
         a.count * node::WORDS,
-    );
+    )
 }
 
 // Writes into a buffer the characters of the name at the first node of a text, or the canonical text.
@@ -104,7 +113,13 @@ fn write(text: &[u8], name: bool, buffer: &mut [u8]) -> Answer {
 }
 
 // Writes it into the first `len` bytes of a buffer.
-fn write_into(text: &[u8], name: bool, word: &[u8], len: usize)
+fn write_into<W: Write>(
+    out: &mut W,
+    text: &[u8],
+    name: bool,
+    word: &[u8],
+    len: usize,
+) -> io::Result<()>
     requires { (len ≤ room) × (length word.now ≤ 4) }
 {
     let mut buffer = [0u8; ROOM];
@@ -112,7 +127,7 @@ fn write_into(text: &[u8], name: bool, word: &[u8], len: usize)
     let a = write(text, name, &mut buffer[..len]);
     let mut words = [0u32; ROOM];
     widen(&buffer, &mut words);
-    report(text, len, b" bytes: ", word, a, &words, a.count);
+    report(out, text, len, b" bytes: ", word, a, &words, a.count)
 }
 
 #[derive(Clone, Copy)]
@@ -123,40 +138,41 @@ enum Service {
 }
 
 // Runs a service with a buffer of `len` words or bytes.
-fn run_into(service: Service, text: &[u8], len: usize)
+fn run_into<W: Write>(out: &mut W, service: Service, text: &[u8], len: usize) -> io::Result<()>
     requires { len ≤ room }
 {
     match service {
-        Service::Read => read_into(text, len),
-        Service::Canonicalize => write_into(text, false, b"tidy", len),
-        Service::WriteName => write_into(text, true, b"name", len),
+        Service::Read => read_into(out, text, len),
+        Service::Canonicalize => write_into(out, text, false, b"tidy", len),
+        Service::WriteName => write_into(out, text, true, b"name", len),
     }
 }
 
 // Runs a service with buffers of lengths around `needed`, the length of the result; one word less than a node has makes no whole node more.
-fn run(service: Service, text: &[u8], needed: usize)
+fn run<W: Write>(out: &mut W, service: Service, text: &[u8], needed: usize) -> io::Result<()>
     requires le_needed { 1 ≤ needed }
     requires words_per_node_bound { needed + words_per_node ≤ room }
 {
-    run_into(service, text, 0);
-    run_into(service, text, needed - 1);
-    run_into(service, text, needed);
-    run_into(service, text, needed + 1);
-    run_into(service, text, needed + node::WORDS - 1);
-    run_into(service, text, ROOM);
+    run_into(out, service, text, 0)?;
+    run_into(out, service, text, needed - 1)?;
+    run_into(out, service, text, needed)?;
+    run_into(out, service, text, needed + 1)?;
+    run_into(out, service, text, needed + node::WORDS - 1)?;
+    run_into(out, service, text, ROOM)
 }
 
-fn main() {
-    run(Service::Read, b"a + b * 3", 5 * node::WORDS);
-    run(Service::Read, b"a", node::WORDS);
-    run(Service::Read, b"a - - b", 4 * node::WORDS);
-    run(Service::Canonicalize, b"a+b", 5);
-    run(Service::Canonicalize, b"((a)) * (b + c)", 13);
-    run(Service::Canonicalize, b"a - - b", 7);
-    run(Service::WriteName, b"'O''Neill'", 7);
-    run(Service::WriteName, b"''''", 1);
-    run_into(Service::Read, b" ", 0);
-    run_into(Service::Read, b" ", ROOM);
-    run_into(Service::Canonicalize, b" ", 0);
-    run_into(Service::Canonicalize, b" ", ROOM);
+fn main(rt: HostRuntime) -> io::Result<()> {
+    let mut out = rt.stdout();
+    run(&mut out, Service::Read, b"a + b * 3", 5 * node::WORDS)?;
+    run(&mut out, Service::Read, b"a", node::WORDS)?;
+    run(&mut out, Service::Read, b"a - - b", 4 * node::WORDS)?;
+    run(&mut out, Service::Canonicalize, b"a+b", 5)?;
+    run(&mut out, Service::Canonicalize, b"((a)) * (b + c)", 13)?;
+    run(&mut out, Service::Canonicalize, b"a - - b", 7)?;
+    run(&mut out, Service::WriteName, b"'O''Neill'", 7)?;
+    run(&mut out, Service::WriteName, b"''''", 1)?;
+    run_into(&mut out, Service::Read, b" ", 0)?;
+    run_into(&mut out, Service::Read, b" ", ROOM)?;
+    run_into(&mut out, Service::Canonicalize, b" ", 0)?;
+    run_into(&mut out, Service::Canonicalize, b" ", ROOM)
 }

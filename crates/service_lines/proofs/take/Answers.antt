@@ -1,19 +1,29 @@
--- A line end leaves a fresh line; any other character is one more of the line. Assumes nothing.
-use borrow.Author.Rules.{rules}
-use Rattle.calls.proofs.Steps.{new_sound, line_end, line-goes-on}
+-- A line end leaves a fresh line; any other character is one more of the line. A line end leaves the text as it was, also where writing failed.
+use mathlib.Core.Path.{refl}
+use Rattle.calls.proofs.Steps.{line_end, line-goes-on}
+use Rattle.calls.specs.Calls.{fresh}
 use Rattle.service_lines.proofs.take.Goals as goal
 
-pub returns-then-b-eq10 : goal.returns-then-b-eq10
-returns-then-b-eq10 c =
-    let t = c in
-    let a = t.args in
-    let h = line_end a.format a.text-1.now a.call a.b _ c.new.ensures t.if-b-eq10.true in
-    (h.0, (h.1, new_sound a.format _ _ c.new.ensures))
+pub returns-in_err-finish-clause-text_after : goal.returns-in_err-finish-clause-text_after
+returns-in_err-finish-clause-text_after g c =
+    let a = c.args in (line_end a.format a.text.now a.call a.b (fresh a.format) refl c.if-b-eq10.true).1
 
-pub returns : goal.returns
-returns c =
-    let t = c in
-    let a = t.args in
+pub returns-then-b-eq10-clause-value : goal.returns-then-b-eq10-clause-value
+returns-then-b-eq10-clause-value g c =
+    let a = c.args in (line_end a.format a.text.now a.call a.b c.new.result c.new.ensures c.if-b-eq10.true).0
+
+pub returns-then-b-eq10-clause-text_after : goal.returns-then-b-eq10-clause-text_after
+returns-then-b-eq10-clause-text_after g c =
+    let a = c.args in (line_end a.format a.text.now a.call a.b c.new.result c.new.ensures c.if-b-eq10.true).1
+
+pub returns-clause-value : goal.returns-clause-value
+returns-clause-value g c =
+    let a = c.args in
     let e = c.next.ensures in
-    let h = line-goes-on a.format a.text-1.now a.call a.b _ _ t.if-b-eq10.false e.0 e.1.0 in
-    (h.0, (h.1, e.1.1))
+    (line-goes-on a.format a.text.now a.call a.b c.next.result c.next.new.text c.if-b-eq10.false e.value e.text_after).0
+
+pub returns-clause-text_after : goal.returns-clause-text_after
+returns-clause-text_after g c =
+    let a = c.args in
+    let e = c.next.ensures in
+    (line-goes-on a.format a.text.now a.call a.b c.next.result c.next.new.text c.if-b-eq10.false e.value e.text_after).1

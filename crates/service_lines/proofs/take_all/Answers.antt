@@ -1,30 +1,25 @@
--- The loop's invariant: the line is sound, the text as long as it was, and what is left of the part leads to what the whole leads to.
--- Assumes nothing.
-use mathlib.Core.Path.{◌≡◌, refl, sym, ◌∙◌}
-use Prim.Native.Nat.{◌-◌, ◌≤◌}
+-- A turn takes one character more; behind the last one nothing is left of the part.
+use mathlib.Core.Path.{sym, ◌∙◌}
 use native.Mathlib.Omega.{arith}
-use borrow.Author.Rules.{rules}
-use lib.ListN.{length, drop}
-use Rattle.calls.specs.Calls.{taken_all, text_taken_all, Sound}
 use Rattle.calls.proofs.Steps.{Taken-step, taken-end}
 use Rattle.service_lines.proofs.take_all.Goals as goal
 
-pub loop-i-init : goal.loop-i-init
-loop-i-init c = (search rules, search rules, omega arith, refl, refl)
-
 pub loop-i-preserved : goal.loop-i-preserved
-loop-i-preserved c =
-    let k = c in
-    let t = k in
-    let l = t in
-    let a = l.args in
-    let e = k.take-l.ensures in
-    let h = Taken-step a.format l.loop-i.text l.loop-i.l a.part.now l.loop-i.i _ _ t.loop-i-test.true e.0 e.1.0 in
-    (e.1.1, search rules, omega arith, l.loop-i.invariant.3 ∙ h.0, l.loop-i.invariant.4 ∙ h.1)
+loop-i-preserved g c =
+    let a = c.args in
+    let l = c.loop-i in
+    let e = c.in_ok-l.ensures in
+    let h = Taken-step a.format l.text l.l a.part.now l.i c.in_ok-l.l c.take.new.text c.loop-i-test.true e.value e.text_after in
+    (e.sound, omega arith, l.invariant.2 ∙ h.0, l.invariant.3 ∙ h.1)
 
-pub returns : goal.returns
-returns c =
-    let l = c in
-    let a = l.args in
-    let h = taken-end a.format l.loop-i.text l.loop-i.l a.part.now l.loop-i.i (omega arith) in
-    (sym (l.loop-i.invariant.3 ∙ h.0), (sym (l.loop-i.invariant.4 ∙ h.1), l.loop-i.invariant.0))
+pub returns-clause-value : goal.returns-clause-value
+returns-clause-value g c =
+    let a = c.args in
+    let l = c.loop-i in
+    sym (l.invariant.2 ∙ (taken-end a.format l.text l.l a.part.now l.i (omega arith)).0)
+
+pub returns-clause-text_after : goal.returns-clause-text_after
+returns-clause-text_after g c =
+    let a = c.args in
+    let l = c.loop-i in
+    sym (l.invariant.3 ∙ (taken-end a.format l.text l.l a.part.now l.i (omega arith)).1)

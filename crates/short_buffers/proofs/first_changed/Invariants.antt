@@ -1,10 +1,5 @@
--- The loop's invariant: each word passed is as `fill` leaves it. Assumes nothing.
-use mathlib.Core.Path.{◌≡◌}
-use Prim.Native.Nat.{ℕ, ◌+◌, ◌-◌, ◌≤◌, ◌<◌}
-use native.Mathlib.Omega.{arith}
-use borrow.Author.Rules.{rules}
-use borrow.Author.Count.{below_more}
-use lib.ListN.{length, get_or}
+-- The loop's invariant: each word passed is as `fill` leaves it.
+use Rattle.std.proofs.Common.{◌≡◌, ℕ, ◌+◌, ◌-◌, ◌≤◌, ◌<◌, length, get_or}
 use Rattle.short_buffers.proofs.first_changed.Given as goal
 
 abbrev pub invariant-loop-i : goal.invariant-loop-i
