@@ -1,15 +1,14 @@
--- The digits of a number, written from the last to the first, are its decimal in the definition of the listing.
+-- The digits that `io` makes of a number are its decimal in the definition of the listing.
 use mathlib.Core.Path.{◌≡◌, refl, sym, ap, ◌∙◌}
 use mathlib.Core.Bool.{Bool, true, false}
-use mathlib.Core.List.{List, [], ◌∷◌, ◌++◌, append-nil, append_assoc}
+use mathlib.Core.List.{[], ◌∷◌, ◌++◌}
 use Prim.Native.Nat.{ℕ, zero, suc, ◌+◌, ◌*◌, ◌-◌, ◌/◌, ◌%◌, ◌^◌, ◌≤◌, ◌<◌}
-use native.Mathlib.Nat.{pow-suc}
-use native.Mathlib.Numerals.{add-one}
+use native.Mathlib.Nat.{pow-suc, one-le-pow}
 use native.Mathlib.Omega.{arith}
 use borrow.Author.Tests.{ltb-true, ltb-false, lt-ltb, le-ltb}
 use lib.Dec.{ltb}
-use lib.ListN.{length, drop, set, length-append, length-set, drop_of_length-le}
-use Rattle.std.proofs.lemmas.List.{drop-set}
+use lib.ListN.{length, length-append}
+use Rattle.io.specs.Digits.{last_digits, hex_digit_ascii, IsDigitCount}
 use Rattle.grammar.specs.Bytes.{Bytes}
 use Rattle.grammar.specs.Listing.{decimal_in, decimal, field}
 use Rattle.listing.specs.Lines.{spelled}
@@ -17,6 +16,9 @@ use Rattle.listing.specs.Lines.{spelled}
 -- The tenth of a number has one digit less.
 tenth : (f n : ℕ) → n < 10 ^ suc f → n / 10 < 10 ^ f
 tenth f n h = let p : 10 ^ suc f ≡ 10 ^ f * 10 = pow-suc 10 f in omega arith
+
+least_tenth : (f n : ℕ) → 10 ^ suc f ≤ n → 10 ^ f ≤ n / 10
+least_tenth f n h = let p : 10 ^ suc f ≡ 10 ^ f * 10 = pow-suc 10 f in omega arith
 
 -- A number below 10 is one digit; any other has its tenth and then one digit.
 last_digit : (f n : ℕ) → n < 10 → decimal_in (suc f) n ≡ (48 + n) ∷ []
@@ -41,49 +43,29 @@ enough (suc f) (suc g) n h k = go (enough f g (n / 10) (tenth (suc f) n h) (tent
         more_digits (suc f) n (ltb-false n 10 e) ∙ ap (λ (d : Bytes). d ++ (48 + n % 10) ∷ []) ih
         ∙ sym (more_digits (suc g) n (ltb-false n 10 e))
 
--- The digits of `v` behind place `i` are all but those of `rest`, for which the places up to `i` have room.
-pub record Spelling (v i rest : ℕ) (digits : List ℕ) : Type 0 where
-  pub size : length digits ≡ 20
-  pub in_range : i < 20
-  pub room : rest < 10 ^ suc i
-  pub joined : decimal_in (suc i) rest ++ drop (suc i) digits ≡ spelled v
+glyph_digit : (n : ℕ) → hex_digit_ascii (n % 10) ≡ 48 + n % 10
+glyph_digit n = let h : n % 10 < 10 = omega arith in rw (lt-ltb (n % 10) 10 h) refl
 
--- Before the first digit is written, all are to come.
-pub spelling_begun : (v : ℕ) (digits : List ℕ) → v < 2 ^ 64 → length digits ≡ 20 → Spelling v 19 v digits
+-- The fewest digits that hold a number, and as much fuel.
+fewest : (k n : ℕ) → n < 10 ^ suc k → (0 < k → 10 ^ k ≤ n) → last_digits 10 (suc k) n ≡ decimal_in (suc k) n
+fewest zero n h g =
+    let m : n % 10 ≡ n = omega arith in
+    rw (glyph_digit n, m) (sym (last_digit 0 n h))
+fewest (suc k) n h g =
+    let l : 10 ^ suc k ≤ n = g (omega arith) in
+    let o : 1 ≤ 10 ^ k = one-le-pow k 10 (omega arith) in
+    let e : 10 ^ suc k ≡ 10 ^ k * 10 = pow-suc 10 k in
+    let p : 10 ≤ n = omega arith in
+    rw (glyph_digit n, more_digits (suc k) n p)
+    (ap (λ (d : Bytes). d ++ (48 + n % 10) ∷ []) (fewest k (n / 10) (tenth (suc k) n h) (λ z. least_tenth k n l)))
+
+-- What `decimal` of `io` promises is the decimal with fuel for every number of 64 bits.
+pub digits_spelled : (k n : ℕ) → n < 2 ^ 64 → IsDigitCount 10 1 n k → last_digits 10 k n ≡ spelled n
 unfolding spelled
-spelling_begun v digits h size = let short : length digits ≤ 20 = omega arith in record {
-  size = size;
-  in_range = omega arith;
-  room = omega arith;
-  joined =
-      ap (λ (d : Bytes). decimal_in 20 v ++ d) (drop_of_length-le digits short) ∙ append-nil (decimal_in 20 v);
-}
-
--- A turn of the loop writes the last of the digits that are to come.
-pub spelling_goes_on
-    : (v i rest : ℕ) (digits : List ℕ) → Spelling v i rest digits → 10 ≤ rest → Spelling v (i - 1) (rest / 10) (set digits i (48 + rest % 10))
-spelling_goes_on v zero rest digits s h = absurd (omega (arith, s.room))
-spelling_goes_on v (suc i) rest digits s h =
-    let less : suc i - 1 ≡ i = omega arith in
-    let inside : suc i < length digits = omega (arith, s.size, s.in_range) in
-    rw less
-    record {
-      size = length-set digits (suc i) (48 + rest % 10) ∙ s.size;
-      in_range = omega (arith, s.in_range);
-      room = tenth (suc i) rest s.room;
-      joined =
-          ap (λ (d : Bytes). decimal_in (suc i) (rest / 10) ++ d) (drop-set digits (suc i) (48 + rest % 10) inside)
-          ∙ rw (add-one (suc i), more_digits (suc i) rest h, append_assoc) refl
-          ∙ s.joined;
-    }
-
--- The one digit that is left is the first.
-pub spelling_ends : (v i rest : ℕ) (digits : List ℕ) → Spelling v i rest digits → rest < 10 → drop i (set digits i (48 + rest)) ≡ spelled v
-spelling_ends v i rest digits s h =
-    let inside : i < length digits = omega (arith, s.size, s.in_range) in
-    drop-set digits i (48 + rest) inside
-    ∙ rw (add-one i, last_digit i rest h) refl
-    ∙ s.joined
+digits_spelled zero n h f = absurd (omega (arith, f.0))
+digits_spelled (suc k) n h f =
+    let less : suc k - 1 ≡ k = omega arith in
+    fewest k n f.1 (λ z. rw less at (f.2 (omega arith))) ∙ enough k 19 n f.1 (omega arith)
 
 -- The definition of the listing has fuel for ten digits.
 pub spelled-decimal : (n : ℕ) → n < 10 ^ 10 → spelled n ≡ decimal n

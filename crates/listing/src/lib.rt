@@ -9,7 +9,6 @@ ghost use Rattle.listing.specs.Lines.{spelled, refusal_text, answer_text, outcom
 
 use nodes::node;
 use reader::Answer;
-use std::io;
 use std::io::Write;
 
 // The bytes of a line, more than any has; the nodes of a table, enough for every text; and its words.
@@ -27,22 +26,6 @@ fn put(line: &mut [u8; LINE], n: usize, part: &[u8]) -> usize
     byte_strings::put(line, n, part)
 }
 
-// Writes a number in decimal to the end of `digits`, and answers where it begins.
-fn decimal(v: u64, digits: &mut [u8; 20]) -> usize
-    ensures start { result < 20 }
-    ensures spelled { drop result digits.new ≡ spelled v }
-{
-    let mut i: usize = 19;
-    let mut rest = v;
-    while rest >= 10 {
-        digits[i] = b'0' + (rest % 10) as u8;
-        rest /= 10;
-        i -= 1;
-    }
-    digits[i] = b'0' + rest as u8;
-    i
-}
-
 // Puts a number, of at most 20 digits, into a line.
 fn put_number(line: &mut [u8; LINE], n: usize, v: u64) -> usize
     requires { n + 20 ≤ line_size }
@@ -50,8 +33,8 @@ fn put_number(line: &mut [u8; LINE], n: usize, v: u64) -> usize
     ensures upper_bound { result ≤ n + 20 }
 {
     let mut digits = [0u8; 20];
-    let start = decimal(v, &mut digits);
-    put(line, n, &digits[start..])
+    let k = io::decimal(v, &mut digits);
+    put(line, n, &digits[..k])
 }
 
 // Puts a number with a space before it into a line.
@@ -138,7 +121,7 @@ fn put_node(line: &mut [u8; LINE], nodes: &[u32; TABLE], i: usize) -> usize
 }
 
 // Writes an answer, with no line end.
-pub fn print_answer<W: Write>(out: &mut W, word: &[u8], a: Answer) -> io::Result<()>
+pub fn print_answer<W: Write>(out: &mut W, word: &[u8], a: Answer) -> std::io::Result<()>
     requires { length word.now ≤ 4 }
 {
     let mut line = [0u8; LINE];
@@ -147,7 +130,7 @@ pub fn print_answer<W: Write>(out: &mut W, word: &[u8], a: Answer) -> io::Result
 }
 
 // Writes the first `n` bytes of a line, and a line end.
-fn print_line<W: Write>(out: &mut W, mut line: [u8; LINE], n: usize) -> io::Result<()>
+fn print_line<W: Write>(out: &mut W, mut line: [u8; LINE], n: usize) -> std::io::Result<()>
     requires { n < line_size }
 {
     let m = put(&mut line, n, b"\n");
@@ -155,7 +138,7 @@ fn print_line<W: Write>(out: &mut W, mut line: [u8; LINE], n: usize) -> io::Resu
 }
 
 // Writes an answer and a line end.
-fn print_answer_line<W: Write>(out: &mut W, word: &[u8], a: Answer) -> io::Result<()>
+fn print_answer_line<W: Write>(out: &mut W, word: &[u8], a: Answer) -> std::io::Result<()>
     requires { length word.now ≤ 4 }
 {
     let mut line = [0u8; LINE];
@@ -164,7 +147,7 @@ fn print_answer_line<W: Write>(out: &mut W, word: &[u8], a: Answer) -> io::Resul
 }
 
 // Writes the answer of a service that counts nothing, and a line end.
-pub fn print_outcome<W: Write>(out: &mut W, word: &[u8], a: Answer) -> io::Result<()>
+pub fn print_outcome<W: Write>(out: &mut W, word: &[u8], a: Answer) -> std::io::Result<()>
     requires { length word.now ≤ 4 }
 {
     let mut line = [0u8; LINE];
@@ -173,7 +156,7 @@ pub fn print_outcome<W: Write>(out: &mut W, word: &[u8], a: Answer) -> io::Resul
 }
 
 // Writes the line of node number `i`.
-fn print_node<W: Write>(out: &mut W, nodes: &[u32; TABLE], i: usize) -> io::Result<()>
+fn print_node<W: Write>(out: &mut W, nodes: &[u32; TABLE], i: usize) -> std::io::Result<()>
     requires { i < most_nodes }
 {
     let mut line = [0u8; LINE];
@@ -182,7 +165,7 @@ fn print_node<W: Write>(out: &mut W, nodes: &[u32; TABLE], i: usize) -> io::Resu
 }
 
 // Writes the lines of the first `count` nodes.
-fn print_nodes<W: Write>(out: &mut W, nodes: &[u32; TABLE], count: usize) -> io::Result<()>
+fn print_nodes<W: Write>(out: &mut W, nodes: &[u32; TABLE], count: usize) -> std::io::Result<()>
     requires { count ≤ most_nodes }
 {
     let mut i: usize = 0;
@@ -194,7 +177,7 @@ fn print_nodes<W: Write>(out: &mut W, nodes: &[u32; TABLE], count: usize) -> io:
 }
 
 // Canonicalizes a text into 16,384 bytes, the most that canonical text may have, and prints its length and bytes, or the refusal.
-fn print_canonical<W: Write>(out: &mut W, text: &[u8]) -> io::Result<()> {
+fn print_canonical<W: Write>(out: &mut W, text: &[u8]) -> std::io::Result<()> {
     let mut buffer = [0u8; 16384];
     let a = reader::canonicalize(text, &mut buffer);
     print_answer_line(out, b"tidy", a)?;
@@ -208,7 +191,7 @@ fn print_canonical<W: Write>(out: &mut W, text: &[u8]) -> io::Result<()> {
 
 // Reads a text into a table and prints its listing: the answer, the nodes and the
 // canonical text.
-pub fn print_listing<W: Write>(out: &mut W, text: &[u8]) -> io::Result<()> {
+pub fn print_listing<W: Write>(out: &mut W, text: &[u8]) -> std::io::Result<()> {
     let mut nodes = [0u32; TABLE];
     let a = reader::read(text, &mut nodes);
     print_answer_line(out, b"read", a)?;
