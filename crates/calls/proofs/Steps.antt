@@ -63,6 +63,11 @@ module _ (text : List ℕ) (n b : ℕ) where
 
 -- The line `call`, as the match on it tells, with the character `b`; `t` is the text then.
 module _ (text : List ℕ) (call : Call) (b : ℕ) where
+  pub name-step
+      : (n : ℕ) (r : Call) (t : List ℕ) → call ≡ Name n → r ≡ name_after text n b → t ≡ name_text_after text n b
+      → (r ≡ after text call b) × (t ≡ text_after text call b)
+  name-step n r t e p q = rw e (p, q)
+
   pub dash_step : (s : Service) → call ≡ Start s → b ≡ 45 → (Dash s ≡ after text call b) × (text ≡ text_after text call b)
   dash_step s e h = (rw (e, eq-eqb b 45 h, after) refl, rw (e, eq-eqb b 45 h, text_after) refl)
 
@@ -71,6 +76,11 @@ module _ (text : List ℕ) (call : Call) (b : ℕ) where
       → l ≡ hex.after (length text) f b → t ≡ hex.text_after text f b
       → (Digits s l ≡ after text call b) × (t ≡ text_after text call b)
   first_step s f l t e h g p q = (rw (p, g, e, ne_eqb b 45 h, after) refl, rw (q, g, e, ne_eqb b 45 h, text_after) refl)
+
+  pub digit-step
+      : (s : Service) (l r : Line) (t : List ℕ) → call ≡ Digits s l → r ≡ hex.after (length text) l b → t ≡ hex.text_after text l b
+      → (Digits s r ≡ after text call b) × (t ≡ text_after text call b)
+  digit-step s l r t e p q = rw (e, p, q) (refl, refl)
 
   pub behind_dash : (s : Service) → call ≡ Dash s → (Bad ≡ after text call b) × (text ≡ text_after text call b)
   behind_dash s e = rw e (refl, refl)

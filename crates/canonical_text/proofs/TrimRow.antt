@@ -78,7 +78,7 @@ module _ {text : Bytes} {R K : List ℕ} {n : ℕ} (rows : Holds 4 K n) (h : (j 
             sym (length-take (size K'' at) (drop (start K'' at) text) ∙ omega (arith, t.within, length-drop (start K'' at) text))
             ∙ ap length left_here
 
-        size_bound : size K'' at ≤ 16384
+        pub size_bound : size K'' at ≤ 16384
         size_bound = omega (arith, t.within, (h at l).short)
 
         -- A turn.

@@ -186,7 +186,7 @@ module _ {text : Bytes} {K R O : List ℕ} {n : ℕ} (t : Tokenized text K R O n
 
   module _ (K' : List ℕ) (r : Paired) (h : Pairing K n K' r) where
     -- The row with closers has the same tokens.
-    still_tokens : Tokenized text K' R O n
+    pub still_tokens : Tokenized text K' R O n
     still_tokens =
         record {
           short = t.short;

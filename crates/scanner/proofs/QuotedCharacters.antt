@@ -73,7 +73,7 @@ module _ (s : Bytes) where
   unfolding is_quote
   quoted_none i h = ap is_quote (get_or-eq_default s 0 h)
 
-  quote-within : (i : ℕ) → is_quote (get_or s i 0) ≡ true → i < length s
+  pub quote-within : (i : ℕ) → is_quote (get_or s i 0) ≡ true → i < length s
   quote-within i e = below i (length s) (λ l. l) (λ l. absurd (clash e (quoted_none i l)))
 
   stops_at : (i : ℕ) → is_quote (get_or s i 0) ≡ false → Stops is_quote (drop i s)

@@ -1,7 +1,7 @@
 // Reads lines from standard input and prints what each asks for: the listing of a text, or the answer of a call.
 #![tactic(auto)]
 
-ghost use Rattle.std.specs.Prelude.{◌≡◌, IfOk, OnOk};
+ghost use Rattle.std.specs.Prelude.{◌≡◌, ℕ, ◌≤◌, length, take, IfOk, OnOk, OnErr};
 ghost use Rattle.calls.specs.Calls.{taken, text_taken, taken_all, text_taken_all, Sound};
 
 use calls::{Call, Format, Request, Service};
@@ -57,6 +57,7 @@ fn take_all<W: Write>(
     requires { Sound call text.old }
     ensures value { IfOk result (λ next. next ≡ taken_all format text.old call part.now) }
     ensures text_after { OnOk result (text.new ≡ text_taken_all format text.old call part.now) }
+    ensures failed { OnErr result ((k : ℕ) × (k ≤ length part.now) × (text.new ≡ text_taken_all format text.old call (take k part.now))) }
     ensures sound { IfOk result (λ next. Sound next text.new) }
 {
     let mut l = call;

@@ -1,8 +1,21 @@
--- A turn takes one character more; behind the last one nothing is left of the part.
-use mathlib.Core.Path.{sym, ◌∙◌}
+-- A turn takes one character more; behind the last one nothing is left of the part. A turn that fails has also left what that character leaves.
+use mathlib.Core.Path.{refl, sym, ◌∙◌}
+use Prim.Native.Nat.{◌+◌}
 use native.Mathlib.Omega.{arith}
+use Rattle.std.specs.Prelude.{Result, Ok, Err, OnErr}
 use Rattle.calls.proofs.Steps.{Taken-step, taken-end}
+use Rattle.service_lines.proofs.Fronts.{none_taken, front_step, text_front_step}
 use Rattle.service_lines.proofs.take_all.Goals as goal
+
+on_any_err : {T E P : Type 0} (r : Result T E) → P → OnErr r P
+on_any_err (Ok a) p = tt
+on_any_err (Err e) p = p
+
+pub loop-i-init : goal.loop-i-init
+loop-i-init g c =
+    let a = c.args in
+    let h = none_taken a.format a.text.now a.call a.part.now in
+    (c.requires, omega arith, refl, refl, h.0, h.1)
 
 pub loop-i-preserved : goal.loop-i-preserved
 loop-i-preserved g c =
@@ -10,7 +23,19 @@ loop-i-preserved g c =
     let l = c.loop-i in
     let e = c.in_ok-l.ensures in
     let h = Taken-step a.format l.text l.l a.part.now l.i c.in_ok-l.l c.take.new.text c.loop-i-test.true e.value e.text_after in
-    (e.sound, omega arith, l.invariant.2 ∙ h.0, l.invariant.3 ∙ h.1)
+    let t = c.loop-i-test.true in
+    let v = front_step a.format a.text.now a.call a.part.now l.i l.l l.text t l.invariant.4 l.invariant.5 c.in_ok-l.l e.value in
+    let u = text_front_step a.format a.text.now a.call a.part.now l.i l.l l.text t l.invariant.4 l.invariant.5 c.take.new.text e.text_after in
+    (e.sound, omega arith, l.invariant.2 ∙ h.0, l.invariant.3 ∙ h.1, v, u)
+
+pub returns-in_err-l-clause-failed : goal.returns-in_err-l-clause-failed
+returns-in_err-l-clause-failed g c =
+    let a = c.args in
+    let l = c.loop-i in
+    let t = c.loop-i-test.true in
+    let x = c.in_err-l.ensures.text_after in
+    let u = text_front_step a.format a.text.now a.call a.part.now l.i l.l l.text t l.invariant.4 l.invariant.5 c.take.new.text x in
+    on_any_err c.from_residual.result (l.i + 1, omega arith, u)
 
 pub returns-clause-value : goal.returns-clause-value
 returns-clause-value g c =

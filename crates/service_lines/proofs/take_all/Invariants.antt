@@ -1,7 +1,8 @@
--- The loop's invariant: the line is sound, and what is left of the part leads to what the whole leads to.
+-- The loop's invariant: the line is sound, what is left of the part leads to what the whole leads to,
+-- and the line and its text are what the first characters of the part leave.
 use mathlib.Core.Path.{◌≡◌}
 use Prim.Native.Nat.{◌-◌, ◌≤◌}
-use lib.ListN.{length, drop}
+use lib.ListN.{length, take, drop}
 use Rattle.calls.specs.Calls.{taken_all, text_taken_all, Sound}
 use Rattle.service_lines.proofs.take_all.Given as goal
 
@@ -10,6 +11,8 @@ invariant-loop-i g l =
     Sound l.l l.text × (l.i ≤ length l.part)
     × (taken_all l.format l.initial.text l.initial.l l.part ≡ taken_all l.format l.text l.l (drop l.i l.part))
     × (text_taken_all l.format l.initial.text l.initial.l l.part ≡ text_taken_all l.format l.text l.l (drop l.i l.part))
+    × (l.l ≡ taken_all l.format l.initial.text l.initial.l (take l.i l.part))
+    × (l.text ≡ text_taken_all l.format l.initial.text l.initial.l (take l.i l.part))
 
 abbrev pub decreases-loop-i : goal.decreases-loop-i
 decreases-loop-i g l = length l.part - l.i
