@@ -64,15 +64,39 @@ table =
     -- T8
     ∷ record { text = bytes "a = b = c"; expected = refuses 11 0 }
     -- T9
-    ∷ record { text = bytes "let infix right 400 r ; in a r b + c end"; expected = reads 6 (node 1 0 0 27 1 0 (node 1 0 0 31 1 0 (node 1 0 0 35 1 0 (node 4 1 2 33 1 400 (node 4 0 3 29 1 400 (node 7 4 0 0 26 0 [])))))) (bytes "let infix right 400 r ; in a r b + c end") }
+    ∷ record {
+      text = bytes "let infix right 400 r ; in a r b + c end";
+      expected =
+          reads 6
+          (node 1 0 0 27 1 0 (node 1 0 0 31 1 0 (node 1 0 0 35 1 0 (node 4 1 2 33 1 400 (node 4 0 3 29 1 400 (node 7 4 0 0 26 0 []))))))
+          (bytes "let infix right 400 r ; in a r b + c end");
+    }
     -- T10
     ∷ record { text = bytes "let infix right 400 r ; in a + b r c end"; expected = refuses 11 24 }
     -- T11
-    ∷ record { text = bytes "let infix left 450 s ; postfix left 450 s ; in a s - b end"; expected = reads 5 (node 1 0 0 47 1 0 (node 1 0 0 53 1 0 (node 3 1 0 51 1 400 (node 4 0 2 49 1 450 (node 7 3 0 0 46 0 []))))) (bytes "let infix left 450 s ; postfix left 450 s ; in a s - b end") }
+    ∷ record {
+      text = bytes "let infix left 450 s ; postfix left 450 s ; in a s - b end";
+      expected =
+          reads 5
+          (node 1 0 0 47 1 0 (node 1 0 0 53 1 0 (node 3 1 0 51 1 400 (node 4 0 2 49 1 450 (node 7 3 0 0 46 0 [])))))
+          (bytes "let infix left 450 s ; postfix left 450 s ; in a s - b end");
+    }
     -- T12
-    ∷ record { text = bytes "let infix left 350 s ; postfix left 350 s ; in a s - b end"; expected = reads 5 (node 1 0 0 47 1 0 (node 5 0 0 49 1 350 (node 1 0 0 53 1 0 (node 4 1 2 51 1 400 (node 7 3 0 0 46 0 []))))) (bytes "let infix left 350 s ; postfix left 350 s ; in a s - b end") }
+    ∷ record {
+      text = bytes "let infix left 350 s ; postfix left 350 s ; in a s - b end";
+      expected =
+          reads 5
+          (node 1 0 0 47 1 0 (node 5 0 0 49 1 350 (node 1 0 0 53 1 0 (node 4 1 2 51 1 400 (node 7 3 0 0 46 0 [])))))
+          (bytes "let infix left 350 s ; postfix left 350 s ; in a s - b end");
+    }
     -- T13
-    ∷ record { text = bytes "((a)) * (b + c)"; expected = reads 8 (node 1 0 0 2 1 0 (node 6 0 0 0 0 0 (node 6 1 0 0 0 0 (node 1 0 0 9 1 0 (node 1 0 0 13 1 0 (node 4 3 4 11 1 400 (node 6 5 0 0 0 0 (node 4 2 6 6 1 300 [])))))))) (bytes "a * ( b + c )") }
+    ∷ record {
+      text = bytes "((a)) * (b + c)";
+      expected =
+          reads 8
+          (node 1 0 0 2 1 0 (node 6 0 0 0 0 0 (node 6 1 0 0 0 0 (node 1 0 0 9 1 0 (node 1 0 0 13 1 0 (node 4 3 4 11 1 400 (node 6 5 0 0 0 0 (node 4 2 6 6 1 300 []))))))))
+          (bytes "a * ( b + c )");
+    }
     -- T14
     ∷ record { text = bytes "'not' = '12'"; expected = reads 3 (node 1 0 0 1 3 0 (node 1 0 0 9 2 0 (node 4 0 1 6 1 500 []))) (bytes "'not' = '12'") }
     ∷ []
