@@ -1,9 +1,12 @@
 // Prints what both services give, in document 01's format: the answer, a line for each node, then the canonical text.
 #![tactic(auto)]
 
-ghost use Rattle.std.specs.Prelude.{◌≡◌, [], ◌∷◌, ◌+◌, ◌*◌, ◌≤◌, ◌<◌, length, drop, get_or};
+ghost use Rattle.std.specs.Prelude.{◌≡◌, [], ◌∷◌, ◌++◌, ◌+◌, ◌*◌, ◌≤◌, ◌<◌, length, take, drop, get_or, replicate, OnOk};
+ghost use Rattle.std.specs.Io.KnownBytes.{Appends};
 ghost use Rattle.grammar.specs.Nodes.{words_per_node};
-ghost use Rattle.grammar.specs.Listing.{field, kind_names, node_lines};
+ghost use Rattle.grammar.specs.Listing.{newline, field, kind_names, node_lines, canonical_lines, printed};
+ghost use Rattle.grammar.specs.Answer as G;
+ghost use Rattle.grammar.specs.Fault.{longest_text};
 ghost use Rattle.byte_strings.specs.Puts.{Put};
 ghost use Rattle.listing.specs.Lines.{spelled, refusal_text, answer_text, outcome_text, line_size, most_nodes};
 
@@ -123,6 +126,7 @@ fn put_node(line: &mut [u8; LINE], nodes: &[u32; TABLE], i: usize) -> usize
 // Writes an answer, with no line end.
 pub fn print_answer<W: Write>(out: &mut W, word: &[u8], a: Answer) -> std::io::Result<()>
     requires { length word.now ≤ 4 }
+    ensures { OnOk result (Appends (W.contents out.old) (W.contents out.new) (answer_text word.now a)) }
 {
     let mut line = [0u8; LINE];
     let n = put_answer(&mut line, word, a);
@@ -132,6 +136,7 @@ pub fn print_answer<W: Write>(out: &mut W, word: &[u8], a: Answer) -> std::io::R
 // Writes the first `n` bytes of a line, and a line end.
 fn print_line<W: Write>(out: &mut W, mut line: [u8; LINE], n: usize) -> std::io::Result<()>
     requires { n < line_size }
+    ensures { OnOk result (Appends (W.contents out.old) (W.contents out.new) (take n line ++ newline)) }
 {
     let m = put(&mut line, n, b"\n");
     out.write_all(&line[..m])
@@ -140,6 +145,7 @@ fn print_line<W: Write>(out: &mut W, mut line: [u8; LINE], n: usize) -> std::io:
 // Writes an answer and a line end.
 fn print_answer_line<W: Write>(out: &mut W, word: &[u8], a: Answer) -> std::io::Result<()>
     requires { length word.now ≤ 4 }
+    ensures { OnOk result (Appends (W.contents out.old) (W.contents out.new) (answer_text word.now a ++ newline)) }
 {
     let mut line = [0u8; LINE];
     let n = put_answer(&mut line, word, a);
@@ -149,6 +155,7 @@ fn print_answer_line<W: Write>(out: &mut W, word: &[u8], a: Answer) -> std::io::
 // Writes the answer of a service that counts nothing, and a line end.
 pub fn print_outcome<W: Write>(out: &mut W, word: &[u8], a: Answer) -> std::io::Result<()>
     requires { length word.now ≤ 4 }
+    ensures { OnOk result (Appends (W.contents out.old) (W.contents out.new) (outcome_text word.now a ++ newline)) }
 {
     let mut line = [0u8; LINE];
     let n = put_outcome(&mut line, word, a);
@@ -158,6 +165,7 @@ pub fn print_outcome<W: Write>(out: &mut W, word: &[u8], a: Answer) -> std::io::
 // Writes the line of node number `i`.
 fn print_node<W: Write>(out: &mut W, nodes: &[u32; TABLE], i: usize) -> std::io::Result<()>
     requires { i < most_nodes }
+    ensures { OnOk result (Appends (W.contents out.old) (W.contents out.new) (node_lines 1 i (drop (i * words_per_node) nodes.now))) }
 {
     let mut line = [0u8; LINE];
     let n = put_node(&mut line, nodes, i);
@@ -167,6 +175,7 @@ fn print_node<W: Write>(out: &mut W, nodes: &[u32; TABLE], i: usize) -> std::io:
 // Writes the lines of the first `count` nodes.
 fn print_nodes<W: Write>(out: &mut W, nodes: &[u32; TABLE], count: usize) -> std::io::Result<()>
     requires { count ≤ most_nodes }
+    ensures { OnOk result (Appends (W.contents out.old) (W.contents out.new) (node_lines count 0 nodes.now)) }
 {
     let mut i: usize = 0;
     while i < count {
@@ -177,7 +186,9 @@ fn print_nodes<W: Write>(out: &mut W, nodes: &[u32; TABLE], count: usize) -> std
 }
 
 // Canonicalizes a text into 16,384 bytes, the most that canonical text may have, and prints its length and bytes, or the refusal.
-fn print_canonical<W: Write>(out: &mut W, text: &[u8]) -> std::io::Result<()> {
+fn print_canonical<W: Write>(out: &mut W, text: &[u8]) -> std::io::Result<()>
+    ensures { OnOk result (Appends (W.contents out.old) (W.contents out.new) (canonical_lines (G.canonicalize text.now (replicate longest_text 0)))) }
+{
     let mut buffer = [0u8; 16384];
     let a = reader::canonicalize(text, &mut buffer);
     print_answer_line(out, b"tidy", a)?;
@@ -191,7 +202,9 @@ fn print_canonical<W: Write>(out: &mut W, text: &[u8]) -> std::io::Result<()> {
 
 // Reads a text into a table and prints its listing: the answer, the nodes and the
 // canonical text.
-pub fn print_listing<W: Write>(out: &mut W, text: &[u8]) -> std::io::Result<()> {
+pub fn print_listing<W: Write>(out: &mut W, text: &[u8]) -> std::io::Result<()>
+    ensures { OnOk result (Appends (W.contents out.old) (W.contents out.new) (printed text.now)) }
+{
     let mut nodes = [0u32; TABLE];
     let a = reader::read(text, &mut nodes);
     print_answer_line(out, b"read", a)?;

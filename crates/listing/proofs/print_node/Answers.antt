@@ -1,0 +1,13 @@
+-- The line of the node is what is written.
+use Prim.Native.Nat.{ℕ}
+use lib.ListN.{length-replicate}
+use Rattle.listing.specs.Lines.{line_size}
+use Rattle.listing.proofs.Puts.{put_front}
+use Rattle.listing.proofs.Appended.{ok_same}
+use Rattle.listing.proofs.print_node.Goals as goal
+
+pub returns : goal.returns
+returns g c =
+    ok_same c.write_all.result _ _
+    (put_front c.put_node-n.ensures.put (length-replicate {A = ℕ} line_size 0) c.put_node-n.ensures.upper_bound)
+    c.write_all.ensures.bytes
