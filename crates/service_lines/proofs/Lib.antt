@@ -1,1 +1,4 @@
 pub mod Fronts
+pub mod Gives
+pub mod Turns
+pub mod Lines
