@@ -1,1 +1,2 @@
 pub mod Intervals
+pub mod Codes

@@ -1,3 +1,4 @@
 pub mod Suffixes
 pub mod Puts
 pub mod LeadingZeros
+pub mod Equality

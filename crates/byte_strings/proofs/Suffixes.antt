@@ -1,14 +1,13 @@
 -- Functions of a byte string, at the part that begins at a place: a byte further, at a byte that ends it, and behind the last byte.
 -- With them a loop goes by what is left of a text.
-use mathlib.Core.Path.{◌≡◌, refl, sym, ap, ◌∙◌}
+use mathlib.Core.Path.{◌≡◌, refl, ap, ◌∙◌}
 use mathlib.Core.Bool.{Bool, true, false}
-use mathlib.Core.List.{[], ◌∷◌}
+use mathlib.Core.List.{◌∷◌}
 use Prim.Native.Nat.{ℕ, suc, ◌+◌, ◌-◌, ◌≤◌, ◌<◌}
 use native.Mathlib.Numerals.{add-one}
 use native.Mathlib.Omega.{arith}
 use lib.ListN.{length, take, drop, get_or, drop_of_length-le, length-drop, length-take}
-use lib.Seq.{drop-cons, take-nil, take_all}
-use borrow.Author.Tests.{eq-eqb, ne_eqb}
+use lib.Seq.{drop-cons}
 use Rattle.grammar.specs.Bytes.{Bytes, same}
 use Rattle.grammar.specs.Scan.{run}
 use Rattle.grammar.proofs.Logic.{same_eq}
@@ -33,20 +32,6 @@ module _ (p : ℕ → Bool) (s : Bytes) (i : ℕ) where
   pub run-within : i ≤ length s → i + run p (drop i s) ≤ length s
   run-within h = omega (arith, (ran p (drop i s)).size, length-take (run p (drop i s)) (drop i s), length-drop i s)
 
-module _ (a b : Bytes) (i : ℕ) where
-  pub same_step
-      : i < length a → i < length b → get_or a i 0 ≡ get_or b i 0 → same (drop i a) (drop i b) ≡ same (drop (i + 1) a) (drop (i + 1) b)
-  unfolding same
-  same_step h g e = rw (drop_next a i h, drop_next b i g, same, eq-eqb (get_or a i 0) (get_or b i 0) e)
-
-  pub same_stop : i < length a → i < length b → (get_or a i 0 ≡ get_or b i 0 → ⊥) → same (drop i a) (drop i b) ≡ false
-  unfolding same
-  same_stop h g e = rw (drop_next a i h, drop_next b i g, same, ne_eqb (get_or a i 0) (get_or b i 0) e)
-
-  pub same_end : length a ≤ i → length b ≤ i → same (drop i a) (drop i b) ≡ true
-  unfolding same
-  same_end h g = rw (drop_of_length-le a h, drop_of_length-le b g)
-
 pub same_length : (a b : Bytes) → (length a ≡ length b → ⊥) → same a b ≡ false
 same_length a b h = go (same a b) refl
   where
@@ -54,15 +39,6 @@ same_length a b h = go (same a b) refl
     go true e = absurd (h (ap length (same_eq a b e)))
     go false e = e
 
--- A part of a text, as far as the text goes.
-module _ (s : Bytes) (at n : ℕ) where
-  pub part_none : length s ≤ at → take n (drop at s) ≡ []
-  part_none h = ap (take n) (drop_of_length-le s h) ∙ take-nil n
-
-  pub part_rest : length s - at ≤ n → take n (drop at s) ≡ take (length s - at) (drop at s)
-  part_rest h =
-      take_all n (drop at s) (omega (arith, length-drop at s))
-      ∙ sym (take_all (length s - at) (drop at s) (omega (arith, length-drop at s)))
-
-  pub part_whole : take (at + n - at) (drop at s) ≡ take n (drop at s)
-  part_whole = let e : at + n - at ≡ n = omega arith in ap (λ k. take k (drop at s)) e
+-- A part that has as many bytes as asked for.
+pub part_whole : (s : Bytes) (at n : ℕ) → take (at + n - at) (drop at s) ≡ take n (drop at s)
+part_whole s at n = let e : at + n - at ≡ n = omega arith in ap (λ k. take k (drop at s)) e

@@ -1,41 +1,24 @@
-// Byte strings: comparing, cutting, copying, and leading zeros.
+// Byte strings: cutting, copying, and leading zeros.
 #![tactic(auto)]
 
-ghost use Rattle.std.specs.Prelude.{◌≡◌, ◌+◌, ◌≤◌, ◌<◌, length, take, drop};
-ghost use Rattle.grammar.specs.Bytes.{same};
+ghost use Rattle.std.specs.Prelude.{◌≡◌, ◌==◌, ◌+◌, ◌≤◌, ◌<◌, length, take, drop};
+ghost use Rattle.std.specs.List.{prefix_len};
 ghost use Rattle.grammar.specs.Canonical.{strip};
 ghost use Rattle.byte_strings.specs.Puts.{Put};
-
-// Whether two byte strings are the same.
-pub fn equal(a: &[u8], b: &[u8]) -> bool
-    ensures { result ≡ same a.now b.now }
-{
-    if a.len() != b.len() {
-        return false;
-    }
-    let mut i = 0;
-    while i < a.len() {
-        if a[i] != b[i] {
-            return false;
-        }
-        i += 1;
-    }
-    true
-}
 
 // A part of a text, as far as the text goes.
 pub fn cut(text: &[u8], at: usize, n: usize) -> &[u8]
     ensures { result.now ≡ take n (drop at text.now) }
 {
-    let len = text.len();
-    if len <= at {
-        return &text[0..0];
-    }
-    if len - at <= n {
-        return &text[at..len];
-    }
-    let e = at + n;
-    &text[at..e]
+    let rest = text.get(at..).unwrap_or_default();
+    &rest[..n.min(rest.len())]
+}
+
+// How many zeros stand in front.
+fn leading_zeros(digits: &[u8]) -> usize
+    ensures { result ≡ prefix_len (λ b. b == 48) digits.now }
+{
+    digits.iter().take_while(|digit| **digit == b'0').count()
 }
 
 // How many leading zeros go: all that stand before another digit.
@@ -43,14 +26,7 @@ pub fn zeros(digits: &[u8]) -> usize
     requires { 1 ≤ length digits.now }
     ensures { (result < length digits.now) × (drop result digits.now ≡ strip digits.now) }
 {
-    let mut z: usize = 0;
-    while z + 1 < digits.len() {
-        if digits[z] != b'0' {
-            return z;
-        }
-        z += 1;
-    }
-    z
+    leading_zeros(&digits[..digits.len() - 1])
 }
 
 // Copies bytes to place `n` of a buffer, and answers the place behind them.
@@ -58,10 +34,9 @@ pub fn put(buffer: &mut [u8], n: usize, part: &[u8]) -> usize
     requires { n + length part.now ≤ length buffer.old }
     ensures { Put buffer.old n part.now buffer.new result }
 {
-    let mut i: usize = 0;
-    while i < part.len() {
+    // `copy_from_slice` would say the same, but the archive would need `memmove`, and its header names `memcpy` and `memset` alone.
+    for i in 0..part.len() {
         buffer[n + i] = part[i];
-        i += 1;
     }
-    n + i
+    n + part.len()
 }

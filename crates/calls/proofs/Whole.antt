@@ -2,7 +2,6 @@
 use mathlib.Core.Path.{◌≡◌, refl, sym, ap, ◌∙◌}
 use mathlib.Core.Bool.{Bool, true, false}
 use mathlib.Core.List.{List, [], ◌∷◌, ◌++◌}
-use mathlib.Core.Option.{Option, none, some}
 use Prim.Native.Nat.{ℕ, ◌+◌, ◌≤◌, ◌<◌}
 use native.Mathlib.Numerals.{add-one}
 use native.Mathlib.Omega.{arith}
@@ -10,6 +9,8 @@ use borrow.Author.Tests.{eqb-true, eqb-false, ltb-true, ltb-false}
 use lib.Dec.{eqb, ltb}
 use lib.ListN.{length, take, set, length-set, length-append}
 use lib.Seq.{take_all, take-suc-set}
+use Rattle.std.specs.Prelude.{None, Some}
+use Rattle.std.specs.declared.option.Option.{Option}
 use Rattle.grammar.specs.Bytes.{Bytes, bytes, same}
 use Rattle.grammar.proofs.Logic.{same_eq}
 use Rattle.hex_lines.specs.declared.lines.Line.{Line}
@@ -44,7 +45,7 @@ step
 unfolding asked_behind
 step text c b s t r e = rw (e.0, e.1) refl
 
-bad_behind : (s text : List ℕ) → asked_behind text Bad s ≡ none
+bad_behind : (s text : List ℕ) → asked_behind text Bad s ≡ None
 unfolding asked_behind
 bad_behind [] text = refl
 bad_behind (b ∷ s) text = bad_behind s text
@@ -63,8 +64,8 @@ digits_behind [] text v l = digits-end text v l (hex.is_text l) refl
 digits_behind (b ∷ s) text v l = digits_behind s (hex.text_after text l b) v (hex.after (length text) l b)
 
 first_text : (room : ℕ) (v : Service) (o : Option Bytes) → of_text v (hex.behind room [] o) ≡ first_bytes room (of_text v o)
-first_text room v none = refl
-first_text room v (some t) = refl
+first_text room v None = refl
+first_text room v (Some t) = refl
 
 text-behind
     : (text s : List ℕ) (v : Service) → asked_behind text (Digits v hex.fresh) s ≡ first_bytes (length text) (of_text v (hex.text_of s))
@@ -74,7 +75,7 @@ text-behind text s v =
 -- The text behind a space.
 dash_behind : (s text : List ℕ) (v : Service) → asked_behind text (Dash v) s ≡ first_bytes (length text) (of_text v (dashed s))
 unfolding asked_behind dashed
-dash_behind [] text v = ap (λ (t : Bytes). some (v, t)) (sym (take_all (length text) [] (omega arith)))
+dash_behind [] text v = ap (λ (t : Bytes). Some (v, t)) (sym (take_all (length text) [] (omega arith)))
 dash_behind (b ∷ s) text v = bad_behind s text
 
 module _ (b : ℕ) (s : List ℕ) where
@@ -111,8 +112,8 @@ start-behind (b ∷ s) text v = go (eqb b 45) refl
 
 service-behind
     : (o : Option Service) (s text : List ℕ) → asked_behind text (start o) s ≡ first_bytes (length text) (of_name o (argument s))
-service-behind none s text = bad_behind s text
-service-behind (some v) s text = start-behind s text v
+service-behind None s text = bad_behind s text
+service-behind (Some v) s text = start-behind s text v
 
 -- The end of a name, and a name that is too long.
 module _ (b : ℕ) (space other : Asked) where
@@ -124,28 +125,28 @@ module _ (b : ℕ) (space other : Asked) where
   unfolding at_space
   at_other e = rw (e, at_space) refl
 
-other_name : (name : Bytes) → same name (bytes "locate") ≡ false → service_of name ≡ none
+other_name : (name : Bytes) → same name (bytes "locate") ≡ false → service_of name ≡ None
 unfolding service_of
 other_name name e = rw (e, service_of) refl
 
-no_service : (name : Bytes) → longest_name < length name → service_of name ≡ none
+no_service : (name : Bytes) → longest_name < length name → service_of name ≡ None
 no_service name h = go (same name (bytes "locate")) refl
   where
-    go : (x : Bool) → same name (bytes "locate") ≡ x → service_of name ≡ none
+    go : (x : Bool) → same name (bytes "locate") ≡ x → service_of name ≡ None
     go true e = absurd (omega (arith, ap length (same_eq name (bytes "locate") e)))
     go false e = other_name name e
 
 longer : (name : Bytes) (b : ℕ) → length (name ++ b ∷ []) ≡ length name + 1
 longer name b = length-append name (b ∷ [])
 
-long_behind : (s name : Bytes) → longest_name < length name → call_behind name s ≡ none
+long_behind : (s name : Bytes) → longest_name < length name → call_behind name s ≡ None
 unfolding call_behind
 long_behind [] name h = refl
 long_behind (b ∷ s) name h = go (long_behind s (name ++ b ∷ []) (omega (arith, longer name b))) (eqb b 32) refl
   where
     go
-        : call_behind (name ++ b ∷ []) s ≡ none → (x : Bool) → eqb b 32 ≡ x
-        → at_space b (of_name (service_of name) (argument s)) (call_behind (name ++ b ∷ []) s) ≡ none
+        : call_behind (name ++ b ∷ []) s ≡ None → (x : Bool) → eqb b 32 ≡ x
+        → at_space b (of_name (service_of name) (argument s)) (call_behind (name ++ b ∷ []) s) ≡ None
     go ih true e =
         at_space_lem b _ (call_behind (name ++ b ∷ []) s) e ∙ ap (λ (o : Option Service). of_name o (argument s)) (no_service name h)
     go ih false e = at_other b (of_name (service_of name) (argument s)) _ e ∙ ih

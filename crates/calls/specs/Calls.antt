@@ -1,6 +1,6 @@
 -- A line as a call of a service: a name, a space and a text in hexadecimal, with one more character.
-use Rattle.std.specs.Prelude.{Bool, true, false, not, List, [], ◌∷◌, ℕ, ◌+◌, ◌≤◌, eqb, ltb, length, take, set}
-use Rattle.std.proofs.Math.Option.{Option, none, some}
+use Rattle.std.specs.Prelude.{Bool, true, false, not, List, [], ◌∷◌, ℕ, ◌+◌, ◌≤◌, eqb, ltb, length, take, set, None, Some}
+use Rattle.std.specs.declared.option.Option.{Option}
 use Rattle.grammar.specs.Bytes.{Bytes, bytes, same}
 use Rattle.hex_lines.specs.Hexadecimal as hex
 use Rattle.calls.specs.declared.Service.{Service}
@@ -10,7 +10,6 @@ use Rattle.calls.specs.declared.Format.TheVariants.{Texts, Calls}
 use Rattle.calls.specs.declared.Call.{Call}
 use Rattle.calls.specs.declared.Call.TheVariants.{Name, Start, Dash, Digits, Bad}
 use Rattle.calls.specs.declared.Request.{Request}
-use Rattle.calls.specs.declared.Request.TheVariants.{Text, Nothing}
 
 -- A line with no character.
 abbrev pub fresh : Format → Call
@@ -27,15 +26,15 @@ begun_by Bad = true
 
 -- The service of a name, and the longest name.
 unfoldable pub service_of : Bytes → Option Service
-service_of name = elim (same name (bytes "locate")) [ true ↦ some Locate | false ↦ none ]
+service_of name = elim (same name (bytes "locate")) [ true ↦ Some Locate | false ↦ None ]
 
 abbrev pub longest_name : ℕ
 longest_name = 6
 
 -- The line behind a name and a space.
 abbrev pub start : Option Service → Call
-start none = Bad
-start (some s) = Start s
+start None = Bad
+start (Some s) = Start s
 
 abbrev pub named : Bytes → Call
 named name = start (service_of name)
@@ -79,13 +78,13 @@ unfoldable pub text_taken_all : Format → List ℕ → Call → Bytes → List 
 text_taken_all f text c [] = text
 text_taken_all f text c (b ∷ s) = text_taken_all f (text_taken text c b) (taken f text c b) s
 
--- What a whole line asks for.
-abbrev pub requested : Call → Request
-requested (Name n) = Nothing
-requested (Start s) = Nothing
-requested (Dash s) = Text s 0
-requested (Digits s l) = elim (hex.is_text l) [ true ↦ Text s l.kept | false ↦ Nothing ]
-requested Bad = Nothing
+-- What a whole line asks for: a service of the first bytes of its text, or nothing.
+abbrev pub requested : Call → Option Request
+requested (Name n) = None
+requested (Start s) = None
+requested (Dash s) = Some (record { service = s; kept = 0 })
+requested (Digits s l) = elim (hex.is_text l) [ true ↦ Some (record { service = s; kept = l.kept }) | false ↦ None ]
+requested Bad = None
 
 -- What holds of every line, with the bytes of its text.
 abbrev pub Sound : Call → List ℕ → Type 0

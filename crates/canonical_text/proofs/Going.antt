@@ -2,7 +2,6 @@
 -- A turn changes the part of the tree alone that the token stands in, so what is known of the other parts stays known.
 use mathlib.Core.Path.{◌≡◌, refl, sym, ap, ◌∙◌}
 use mathlib.Core.Bool.{Bool, false, ◌&&◌}
-use mathlib.Core.List.{List}
 use mathlib.Core.Option.{Option}
 use Prim.Native.Nat.{ℕ, suc, ◌+◌, ◌≤◌, ◌<◌}
 use native.Mathlib.Omega.{arith}
@@ -15,7 +14,7 @@ use Rattle.grammar.specs.Declaration.{declare_all, all_tokens}
 use Rattle.grammar.specs.SpanTree.{Position, on_left, on_right, role_over}
 use Rattle.grammar.specs.Tree.{Tree, nothing, leaf, bracket, block, node, flat, span_tree}
 use Rattle.grammar.proofs.Logic.{below}
-use Rattle.rows.specs.Fields.{kind, closer, size, arrival}
+use Rattle.rows.specs.Fields.{TokenRow, NoteRow, RootRow, kind, closer, size, arrival}
 use Rattle.rows.proofs.Fields.{within}
 use Rattle.canonical_text.specs.Brackets.{stays, TreeAt, kept_pair, kept_beside, size_if, Sized}
 use Rattle.canonical_text.proofs.TreeRows.{
@@ -31,7 +30,7 @@ use Rattle.canonical_text.proofs.TreeRows.{
 }
 use Rattle.canonical_text.proofs.Pairs.{pair_long, pair_fields, pair_others, pair_opener, pair_closer}
 
-abbrev pub Going : ℕ → List ℕ → Table → ℕ → Bool → Tree → Type 0
+abbrev pub Going : ℕ → TokenRow → Table → ℕ → Bool → Tree → Type 0
 Going at K T i b nothing = Unit {0}
 Going at K T i b (leaf a) = Unit {0}
 Going at K T i b (bracket t) = (size K i ≡ size_if b) × (size K (suc (i + length (flat t))) ≡ size_if b) × Going at K T (suc i) false t
@@ -44,7 +43,7 @@ Going at K T i b (node l m r) =
 
 -- At the first token, where no bracket has a byte; and at the end.
 pub going_start :
-    {K R O : List ℕ} {n : ℕ} (T : Table) (i : ℕ) (t : Tree) → TreeAt K R O n T i t
+    {K : TokenRow} {R : NoteRow} {O : RootRow} {n : ℕ} (T : Table) (i : ℕ) (t : Tree) → TreeAt K R O n T i t
     → ((j : ℕ) → j < n → 4 ≤ kind K j → kind K j ≤ 5 → size K j ≡ 0) → Going 0 K T i false t
 unfolding size_if
 going_start T i nothing h z = tt
@@ -61,7 +60,7 @@ going_start T i (node l m r) h z =
     let a = i + length (flat l) in
     rw (le-ltb a 0 (omega arith)) (going_start T i l (left_at h) z, going_start T (suc a) r (right_at h) z)
 
-pub going_end : (at : ℕ) (K : List ℕ) (T : Table) (i : ℕ) (b : Bool) (t : Tree) → i + length (flat t) ≤ at → Going at K T i b t → Sized K T i b t
+pub going_end : (at : ℕ) (K : TokenRow) (T : Table) (i : ℕ) (b : Bool) (t : Tree) → i + length (flat t) ≤ at → Going at K T i b t → Sized K T i b t
 going_end at K T i b nothing h g = tt
 going_end at K T i b (leaf a) h g = tt
 going_end at K T i b (bracket t) h g = (g.0, g.1, going_end at K T (suc i) false t (omega (arith, bracket_length t)) g.2)
@@ -81,7 +80,7 @@ before_by at at' j e h = ltb-true j at (e ∙ lt-ltb j at' h)
 behind_by : (at at' j : ℕ) → ltb j at ≡ ltb j at' → at' ≤ j → at ≤ j
 behind_by at at' j e h = ltb-false j at (e ∙ le-ltb j at' h)
 
-module _ (at at' : ℕ) (K K' : List ℕ) where
+module _ (at at' : ℕ) (K K' : TokenRow) where
   pub elsewhere :
       (T : Table) (i : ℕ) (b : Bool) (t : Tree) → ((j : ℕ) → i ≤ j → j < i + length (flat t) → ltb j at ≡ ltb j at')
       → ((j : ℕ) → i ≤ j → j < i + length (flat t) → size K' j ≡ size K j) → Going at K T i b t → Going at' K' T i b t
@@ -110,7 +109,7 @@ module _ (at at' : ℕ) (K K' : List ℕ) where
       )
 
 -- The pair that an operand is gets its bytes if it stays: no token outside the operand changes, and none but brackets.
-module _ {K R O : List ℕ} {n : ℕ} {T : Table} (s : Position) (o : Option Role) where
+module _ {K : TokenRow} {R : NoteRow} {O : RootRow} {n : ℕ} {T : Table} (s : Position) (o : Option Role) where
   pub pair_elsewhere :
       {i : ℕ} (t : Tree) → TreeAt K R O n T i t → (j : ℕ) → (i ≤ j → j < i + length (flat t) → ⊥) → size (kept_pair (stays T s o t) K i) j ≡ size K j
   unfolding stays kept_pair
@@ -145,8 +144,8 @@ module _ {K R O : List ℕ} {n : ℕ} {T : Table} (s : Position) (o : Option Rol
       let b = stays T s o (bracket t) in
       let l = bracket_length t in
       let c = suc (i + length (flat t)) in (
-        pair_opener K i c h.stands.1 (λ e. omega arith) b (within 4 n K i h.rows.0 (omega (arith, h.within))) g.0,
-        pair_closer K i c h.stands.1 (λ e. omega arith) b (within 4 n K c h.rows.0 (omega (arith, h.within))) g.1,
+        pair_opener K i c h.stands.1 (λ e. omega arith) b (within n K i h.rows.0 (omega (arith, h.within))) g.0,
+        pair_closer K i c h.stands.1 (λ e. omega arith) b (within n K c h.rows.0 (omega (arith, h.within))) g.1,
         elsewhere at at' K (kept_pair b K i) T (suc i) false t (λ j x y. p j (omega arith) (omega (arith, l)))
             (λ j x y. pair_others K i b j (λ e. omega arith) (λ e. omega (arith, h.stands.1))) g.2,
       )
@@ -154,22 +153,22 @@ module _ {K R O : List ℕ} {n : ℕ} {T : Table} (s : Position) (o : Option Rol
   pair_going at at' {i} (node l m r) h p g = elsewhere at at' K K T i false (node l m r) p (λ j x y. refl) g
 
 -- After a turn at token `at` of the tree the loop stands behind it.
-pub record After (at : ℕ) (K : List ℕ) (T : Table) (i : ℕ) (b : Bool) (t : Tree) (at' : ℕ) (K' : List ℕ) : Type 0 where
+pub record After (at : ℕ) (K : TokenRow) (T : Table) (i : ℕ) (b : Bool) (t : Tree) (at' : ℕ) (K' : TokenRow) : Type 0 where
   pub onward : at < at'
   pub upto : at' ≤ i + length (flat t)
   pub same : (j : ℕ) → (i ≤ j → j < i + length (flat t) → ⊥) → size K' j ≡ size K j
   pub going : Going at' K' T i b t
 
 -- The turn: the token is an operator, a `let`, or another token that changes nothing.
-pub data Turn (K R O : List ℕ) (n at : ℕ) (P : ℕ → List ℕ → Type 0) : Type 0 where
+pub data Turn (K : TokenRow) (R : NoteRow) (O : RootRow) (n at : ℕ) (P : ℕ → TokenRow → Type 0) : Type 0 where
   operator :
       (T : Table) (j : ℕ) (l : Tree) (m : Bytes) (r : Tree) → TreeAt K R O n T j (node l m r) → at ≡ j + length (flat l)
-      → ((K' : List ℕ) → K' ≡ kept_beside K T j l m r → P (suc at) K') → Turn K R O n at P
+      → ((K' : TokenRow) → K' ≡ kept_beside K T j l m r → P (suc at) K') → Turn K R O n at P
   jumps : kind K at ≡ 7 → P (closer K at) K → Turn K R O n at P
   plain : (kind K at ≡ 7 → ⊥) → (kind K at ≡ 1 → arrival R at ≡ 0) → P (suc at) K → Turn K R O n at P
 
 turn_map :
-    {K R O : List ℕ} {n at : ℕ} (P Q : ℕ → List ℕ → Type 0) → ((at' : ℕ) (K' : List ℕ) → P at' K' → Q at' K') → Turn K R O n at P → Turn K R O n at Q
+    {K : TokenRow} {R : NoteRow} {O : RootRow} {n at : ℕ} (P Q : ℕ → TokenRow → Type 0) → ((at' : ℕ) (K' : TokenRow) → P at' K' → Q at' K') → Turn K R O n at P → Turn K R O n at Q
 turn_map P Q f (operator T j l m r h e p) = operator T j l m r h e (λ K' q. f _ K' (p K' q))
 turn_map P Q f (jumps k p) = jumps k (f _ _ p)
 turn_map P Q f (plain k a p) = plain k a (f _ _ p)
@@ -181,9 +180,9 @@ ahead at at' i j p q h = le-ltb j at (omega arith) ∙ sym (le-ltb j at' (omega 
 passed : (at at' e j : ℕ) → e ≤ at → e ≤ at' → j < e → ltb j at ≡ ltb j at'
 passed at at' e j p q h = lt-ltb j at (omega arith) ∙ sym (lt-ltb j at' (omega arith))
 
-module _ (at : ℕ) (K : List ℕ) where
+module _ (at : ℕ) (K : TokenRow) where
   -- A turn within a bracket pair, within a body, and within an operand on each side.
-  in_bracket_lem : (T : Table) (i : ℕ) (b : Bool) (t : Tree) → Going at K T i b (bracket t) → (at' : ℕ) (K' : List ℕ)
+  in_bracket_lem : (T : Table) (i : ℕ) (b : Bool) (t : Tree) → Going at K T i b (bracket t) → (at' : ℕ) (K' : TokenRow)
       → After at K T (suc i) false t at' K' → After at K T i b (bracket t) at' K'
   in_bracket_lem T i b t g at' K' a =
       let l = bracket_length t in
@@ -198,7 +197,7 @@ module _ (at : ℕ) (K : List ℕ) where
         );
       }
 
-  in_body_lem : (T : Table) (i : ℕ) (b : Bool) (ds : _) (t : Tree) → suc (suc (i + length (all_tokens ds))) ≤ at → (at' : ℕ) (K' : List ℕ)
+  in_body_lem : (T : Table) (i : ℕ) (b : Bool) (ds : _) (t : Tree) → suc (suc (i + length (all_tokens ds))) ≤ at → (at' : ℕ) (K' : TokenRow)
       → After at K (declare_all T ds) (suc (suc (i + length (all_tokens ds)))) false t at' K' → After at K T i b (block ds t) at' K'
   in_body_lem T i b ds t h at' K' a =
       let l = block_length ds t in
@@ -216,7 +215,7 @@ module _ (at : ℕ) (K : List ℕ) where
     abbrev o : Option Role
     o = role_over T (span_tree l) m (span_tree r)
 
-    in_left : Going at K T i b (node l m r) → at < a → (at' : ℕ) (K' : List ℕ) → After at K T i (ltb a at && stays T on_left o l) l at' K'
+    in_left : Going at K T i b (node l m r) → at < a → (at' : ℕ) (K' : TokenRow) → After at K T i (ltb a at && stays T on_left o l) l at' K'
         → After at K T i b (node l m r) at' K'
     in_left g h at' K' f =
         let k = node-length l m r in
@@ -234,7 +233,7 @@ module _ (at : ℕ) (K : List ℕ) where
         }
 
     in_right :
-        Going at K T i b (node l m r) → a < at → (at' : ℕ) (K' : List ℕ)
+        Going at K T i b (node l m r) → a < at → (at' : ℕ) (K' : TokenRow)
         → After at K T (suc a) (ltb a at && stays T on_right o r) r at' K' → After at K T i b (node l m r) at' K'
     in_right g h at' K' f =
         let k = node-length l m r in
@@ -253,9 +252,9 @@ module _ (at : ℕ) (K : List ℕ) where
 
   -- A turn at the operator itself.
   at_operator :
-      {R O : List ℕ} {n : ℕ} (T : Table) (i : ℕ) (b : Bool) (l : Tree) (m : Bytes) (r : Tree) → TreeAt K R O n T i (node l m r)
+      {R : NoteRow} {O : RootRow} {n : ℕ} (T : Table) (i : ℕ) (b : Bool) (l : Tree) (m : Bytes) (r : Tree) → TreeAt K R O n T i (node l m r)
       → at ≡ i + length (flat l)
-      → Going at K T i b (node l m r) → (K' : List ℕ) → K' ≡ kept_beside K T i l m r → After at K T i b (node l m r) (suc at) K'
+      → Going at K T i b (node l m r) → (K' : TokenRow) → K' ≡ kept_beside K T i l m r → After at K T i b (node l m r) (suc at) K'
   unfolding kept_beside
   at_operator {R} {O} {n} T i b l m r h e g K' k =
       let o = role_over T (span_tree l) m (span_tree r) in
@@ -263,7 +262,7 @@ module _ (at : ℕ) (K : List ℕ) where
       let K₁ = kept_pair (stays T on_left o l) K i in
       let K₂ = kept_pair (stays T on_right o r) K₁ c in
       let h₁ : TreeAt K₁ R O n T c r =
-      tree_kept K K₁ R (λ j. pair_fields K i _ 0 j (omega arith) (λ z. omega arith)) (λ j. pair_fields K i _ 3 j (omega arith) (λ z. omega arith))
+      tree_kept K K₁ R (pair_fields K i _)
       (pair_long K i _) (right_at h) in
       let q = node-length l m r in
       let f = rw (le-ltb (i + length (flat l)) at (omega arith)) at g in
@@ -292,13 +291,13 @@ module _ (at : ℕ) (K : List ℕ) where
   stays_put at' T i t p g = elsewhere at at' K K T i false t p (λ j x y. refl) g
 
   structure_here :
-      {R O : List ℕ} {n : ℕ} {P : ℕ → List ℕ → Type 0} (j k : ℕ) → at ≡ j → kind K j ≡ k → (k ≡ 7 → ⊥) → (k ≡ 1 → ⊥) → P (suc at) K
+      {R : NoteRow} {O : RootRow} {n : ℕ} {P : ℕ → TokenRow → Type 0} (j k : ℕ) → at ≡ j → kind K j ≡ k → (k ≡ 7 → ⊥) → (k ≡ 1 → ⊥) → P (suc at) K
       → Turn K R O n at P
   structure_here j k e f d c p = plain (λ z. d (sym f ∙ ap (kind K) (sym e) ∙ z)) (λ z. absurd (c (sym f ∙ ap (kind K) (sym e) ∙ z))) p
 
 -- A turn at any token of a tree.
 pub turn :
-    {K R O : List ℕ} {n : ℕ} (at : ℕ) (t : Tree) {T : Table} {i : ℕ} (b : Bool) → TreeAt K R O n T i t → Going at K T i b t → i ≤ at
+    {K : TokenRow} {R : NoteRow} {O : RootRow} {n : ℕ} (at : ℕ) (t : Tree) {T : Table} {i : ℕ} (b : Bool) → TreeAt K R O n T i t → Going at K T i b t → i ≤ at
     → at < i + length (flat t) → Turn K R O n at (After at K T i b t)
 unfolding flat
 turn at nothing b h g p q = absurd (omega arith)

@@ -2,7 +2,6 @@
 use Rattle.rows.proofs.Fields.{within}
 use mathlib.Core.Path.{◌≡◌, refl, sym, ap, ◌∙◌}
 use mathlib.Core.Bool.{false}
-use mathlib.Core.List.{List}
 use Prim.Native.Nat.{ℕ, suc, max, ◌+◌, ◌≤◌, ◌<◌}
 use native.Mathlib.Omega.{arith}
 use lib.ListN.{length}
@@ -10,10 +9,11 @@ use Rattle.grammar.specs.Bytes.{Bytes}
 use Rattle.grammar.specs.Operator.{Table}
 use Rattle.grammar.specs.SpanTree.{on_left, on_right, role_over}
 use Rattle.grammar.specs.Tree.{Tree, node, flat, span_tree}
-use Rattle.rows.specs.Fields.{Within, field, kind, closer, size, arrival}
-use Rattle.canonical_text.specs.Brackets.{stays, TreeAt, OperatorAt, kept_pair, kept_beside, Keepable, KeptRow}
+use Rattle.rows.specs.Fields.{TokenRow, NoteRow, RootRow, Within, kind, closer, size, arrival}
+use Rattle.rows.specs.Kinds.{kind_code}
+use Rattle.canonical_text.specs.Brackets.{stays, TreeAt, DiffersInSizes, OperatorAt, kept_pair, kept_beside, Keepable, KeptRow}
 use Rattle.canonical_text.proofs.TreeRows.{left_at, right_at, tree_kept, operator_arrives}
-use Rattle.canonical_text.proofs.Pairs.{pair_long, pair_fields, pair_small}
+use Rattle.canonical_text.proofs.Pairs.{sizes_then, pair_long, pair_fields, pair_small}
 use Rattle.canonical_text.proofs.Going.{
   Going,
   going_start,
@@ -28,26 +28,26 @@ use Rattle.canonical_text.proofs.Going.{
 }
 
 -- The row when the loop stands at token `at`.
-pub record KeptTo (K : List ℕ) (T : Table) (t : Tree) (n at : ℕ) (K' : List ℕ) : Type 0 where
+pub record KeptTo (K : TokenRow) (T : Table) (t : Tree) (n at : ℕ) (K' : TokenRow) : Type 0 where
   pub upto : at ≤ n
   pub long : length K' ≡ length K
-  pub fields : (k j : ℕ) → k < 4 → (k ≡ 2 → ⊥) → field 4 k K' j ≡ field 4 k K j
+  pub fields : DiffersInSizes K K'
   pub others : (j : ℕ) → (kind K j ≡ 4 → ⊥) → (kind K j ≡ 5 → ⊥) → size K' j ≡ size K j
   pub small : (j : ℕ) → size K' j ≤ max 1 (size K j)
   pub going : Going at K' T 0 false t
 
-module _ {K R O : List ℕ} {n : ℕ} {T : Table} {t : Tree} (h : Keepable K R O n T t) where
+module _ {K : TokenRow} {R : NoteRow} {O : RootRow} {n : ℕ} {T : Table} {t : Tree} (h : Keepable K R O n T t) where
   pub keeping_start : KeptTo K T t n 0 K
   keeping_start = record {
     upto = omega arith;
     long = refl;
-    fields = λ k j p d. refl;
+    fields = λ j. refl;
     others = λ j d e. refl;
     small = λ j. omega arith;
     going = going_start T 0 t h.tree h.none;
   }
 
-  module _ {at : ℕ} {K' : List ℕ} (v : KeptTo K T t n at K') where
+  module _ {at : ℕ} {K' : TokenRow} (v : KeptTo K T t n at K') where
     pub keeping_end : n ≤ at → KeptRow K T t K'
     keeping_end l = record {
       long = v.long;
@@ -59,16 +59,13 @@ module _ {K R O : List ℕ} {n : ℕ} {T : Table} {t : Tree} (h : Keepable K R O
 
     pub keeping_tree : TreeAt K' R O n T 0 t
     keeping_tree =
-        tree_kept K K' R (λ j. v.fields 0 j (omega arith) (λ e. omega arith)) (λ j. v.fields 3 j (omega arith) (λ e. omega arith)) v.long h.tree
+        tree_kept K K' R v.fields v.long h.tree
 
-    pub in_tokens_lem : at < n → Within 4 K' at
-    in_tokens_lem l = within 4 n K' at keeping_tree.rows.0 l
-
-    pub in_roles : at < n → Within 4 R at
-    in_roles l = within 4 n R at h.tree.rows.1 l
+    pub in_roles : at < n → Within R at
+    in_roles l = within n R at h.tree.rows.1 l
 
     -- The row after a turn.
-    abbrev Next : ℕ → List ℕ → Type 0
+    abbrev Next : ℕ → TokenRow → Type 0
     Next at' K'' = (at < at') × KeptTo K T t n at' K''
 
     same_row : {at' : ℕ} → After at K' T 0 false t at' K' → Next at' K'
@@ -77,7 +74,7 @@ module _ {K R O : List ℕ} {n : ℕ} {T : Table} {t : Tree} (h : Keepable K R O
       record { upto = omega (arith, a.upto, h.whole); long = v.long; fields = v.fields; others = v.others; small = v.small; going = a.going },
     )
 
-    beside_row : {U : Table} {j : ℕ} {l : Tree} {m : Bytes} {r : Tree} {at' : ℕ} → TreeAt K' R O n U j (node l m r) → (K'' : List ℕ)
+    beside_row : {U : Table} {j : ℕ} {l : Tree} {m : Bytes} {r : Tree} {at' : ℕ} → TreeAt K' R O n U j (node l m r) → (K'' : TokenRow)
         → K'' ≡ kept_beside K' U j l m r
         → After at K' T 0 false t at' K'' → Next at' K''
     unfolding kept_beside
@@ -85,17 +82,17 @@ module _ {K R O : List ℕ} {n : ℕ} {T : Table} {t : Tree} (h : Keepable K R O
         let o = role_over U (span_tree l) m (span_tree r) in
         let c = suc (j + length (flat l)) in
         let K₁ = kept_pair (stays U on_left o l) K' j in
-        let kept : (k i : ℕ) → k < 4 → (k ≡ 2 → ⊥) → field 4 k K₁ i ≡ field 4 k K' i = λ k i x d. pair_fields K' j _ k i x d in
+        let kept : DiffersInSizes K' K₁ = pair_fields K' j _ in
         let q : TreeAt K₁ R O n U c r =
-        tree_kept K' K₁ R (λ i. kept 0 i (omega arith) (λ z. omega arith)) (λ i. kept 3 i (omega arith) (λ z. omega arith)) (pair_long K' j _)
+        tree_kept K' K₁ R kept (pair_long K' j _)
         (right_at p) in
-        let kinds : (i : ℕ) → kind K' i ≡ kind K i = λ i. v.fields 0 i (omega arith) (λ z. omega arith) in
-        let kinds₁ : (i : ℕ) → kind K₁ i ≡ kind K i = λ i. kept 0 i (omega arith) (λ z. omega arith) ∙ kinds i in (
+        let kinds : (i : ℕ) → kind K' i ≡ kind K i = λ i. ap (λ t. kind_code t.kind) (v.fields i) in
+        let kinds₁ : (i : ℕ) → kind K₁ i ≡ kind K i = λ i. ap (λ t. kind_code t.kind) (kept i) ∙ kinds i in (
           a.onward,
           record {
             upto = omega (arith, a.upto, h.whole);
             long = ap length e ∙ pair_long K₁ c _ ∙ pair_long K' j _ ∙ v.long;
-            fields = λ k i x d. ap (λ M. field 4 k M i) e ∙ pair_fields K₁ c _ k i x d ∙ kept k i x d ∙ v.fields k i x d;
+            fields = rw e (sizes_then K K' _ v.fields (sizes_then K' K₁ _ kept (pair_fields K₁ c _)));
             others =
                 λ i x y. ap (λ M. size M i) e ∙ pair_brackets on_right o r q i (λ z. x (sym (kinds₁ i) ∙ z)) (λ z. y (sym (kinds₁ i) ∙ z))
                 ∙ pair_brackets on_left o l (left_at p) i (λ z. x (sym (kinds i) ∙ z)) (λ z. y (sym (kinds i) ∙ z)) ∙ v.others i x y;
@@ -137,7 +134,7 @@ module _ {K R O : List ℕ} {n : ℕ} {T : Table} {t : Tree} (h : Keepable K R O
       pub name : Bytes
       pub behind : Tree
       pub here : OperatorAt K' R O at table first before name behind
-      pub next : (K'' : List ℕ) → K'' ≡ kept_beside K' table first before name behind → Next (suc at) K''
+      pub next : (K'' : TokenRow) → K'' ≡ kept_beside K' table first before name behind → Next (suc at) K''
 
     pub turn_operator : at < n → kind K' at ≡ 1 → (arrival R at ≡ 0 → ⊥) → Found
     turn_operator l k d = go (keeping_turn l)

@@ -1,7 +1,6 @@
 -- Whether the bracket pair that an operand is stays, by the kind of the token at its root and the root of what it holds.
 use mathlib.Core.Path.{◌≡◌, refl, sym, ap, ◌∙◌}
 use mathlib.Core.Bool.{Bool, true, false, not}
-use mathlib.Core.List.{List}
 use mathlib.Core.Option.{some}
 use Prim.Native.Nat.{ℕ, suc, ◌+◌, ◌-◌, ◌<◌}
 use native.Mathlib.Omega.{arith}
@@ -11,12 +10,12 @@ use Rattle.grammar.specs.Operator as Operator
 use Rattle.grammar.specs.SpanTree.{Position, present, root, admits}
 use Rattle.grammar.specs.Tree.{Tree, nothing, leaf, bracket, block, node, flat, span_tree}
 use Rattle.grammar.specs.Canonical.{refuses}
-use Rattle.rows.specs.Fields.{kind, Within}
-use Rattle.rows.specs.Codes.{side_code, role_code, role_of, IsRole}
+use Rattle.rows.specs.Fields.{TokenRow, NoteRow, RootRow, kind, Within}
+use Rattle.rows.specs.Codes.{side_code, role_code, role_of}
 use Rattle.rows.specs.Standing.{mark}
 use Rattle.rows.specs.InUse.{role_in_use}
 use Rattle.rows.proofs.Fields.{within}
-use Rattle.rows.proofs.Codes.{role-code, code-role}
+use Rattle.rows.proofs.Codes.{role-code}
 use Rattle.rows.proofs.AtomRoles.{fit_root}
 use Rattle.rows.specs.Below.{Leads}
 use Rattle.canonical_text.specs.Brackets.{held, stays, TreeAt, OperandAt}
@@ -32,7 +31,7 @@ module _ (T : Table) (s : Position) (q : Role) where
   absent_stays j (block ds t) e = absurd (omega arith)
   absent_stays j (node l m r) e = absurd (omega arith)
 
-  module _ {K R O : List ℕ} {n j : ℕ} (a : ℕ) where
+  module _ {K : TokenRow} {R : NoteRow} {O : RootRow} {n j : ℕ} (a : ℕ) where
     bare_stays : (t : Tree) → TreeAt K R O n T j t → mark j t ≡ suc a → (kind K a ≡ 4 → ⊥) → false ≡ stays T s (some q) t
     unfolding mark stays
     bare_stays nothing h e d = refl
@@ -69,12 +68,9 @@ pub code_some : (q : Role) → 0 < role_code (some q)
 unfolding role_code
 code_some q = omega (arith, side_some q.associativity)
 
-module _ {K R O : List ℕ} {role operand : ℕ} {T : Table} {j : ℕ} {t : Tree} {q : Role} (h : OperandAt K R O role operand T j t q) where
+module _ {K : TokenRow} {R : NoteRow} {O : RootRow} {role operand : ℕ} {T : Table} {j : ℕ} {t : Tree} {q : Role} (h : OperandAt K R O role operand T j t q) where
   pub operand_none : (s : Position) → operand ≡ 0 → false ≡ stays T s (some q) t
   operand_none s e = absent_stays T s q j t (sym h.marked ∙ e)
-
-  pub is_role_lem : IsRole role
-  is_role_lem = rw h.coded (code-role (some q) h.fit)
 
   pub has_role_lem : 0 < role
   has_role_lem = omega (arith, h.coded, code_some q)
@@ -93,18 +89,15 @@ module _ {K R O : List ℕ} {role operand : ℕ} {T : Table} {j : ℕ} {t : Tree
     operand_bare s d = bare_stays T s q (operand - 1) t h.tree root_noted d
 
     module _ (a : ℕ) (e : a ≡ held_at j t) where
-      pub held_in_roles : Within 4 R a
-      held_in_roles = within 4 h.count R a h.tree.rows.1 (omega (arith, here.before))
+      pub held_in_roles : Within R a
+      held_in_roles = within h.count R a h.tree.rows.1 (omega (arith, here.before))
 
-      pub held_in_roots : Within 2 O a
-      held_in_roots = within 2 h.count O a h.tree.rows.2 (omega (arith, here.before))
+      pub held_in_roots : Within O a
+      held_in_roots = within h.count O a h.tree.rows.2 (omega (arith, here.before))
 
       module _ (x : ℕ) (u : x ≡ role_in_use R O a) where
         coded : x ≡ role_code (root T (span_tree (held t)))
         coded = u ∙ ap (role_in_use R O) e ∙ here.used
-
-        pub held_is_role : IsRole x
-        held_is_role = rw coded (code-role (root T (span_tree (held t))) (fit_root T h.tree.bounded (span_tree (held t))))
 
         -- What the test of the role answers.
         pub operand_held :

@@ -1,7 +1,6 @@
 -- An operator in the rows: its operands, its role by what is noted of them, and the row in which their bracket pairs that stay are kept.
 use mathlib.Core.Path.{◌≡◌, refl, sym, ap, ◌∙◌}
 use mathlib.Core.Bool.{Bool, true}
-use mathlib.Core.List.{List}
 use mathlib.Core.Option.{Option, some}
 use Prim.Native.Nat.{ℕ, suc, ◌+◌, ◌-◌, ◌<◌}
 use native.Mathlib.Omega.{arith}
@@ -12,7 +11,7 @@ use Rattle.grammar.specs.SpanTree.{Position, on_left, on_right, role_over}
 use Rattle.grammar.specs.Tree.{Tree, nothing, leaf, bracket, block, node, flat, span_tree}
 use Rattle.grammar.proofs.Logic.{clash}
 use Rattle.grammar.proofs.AdmittingRole.{AdmittingRole, admitting_role, admitting_root}
-use Rattle.rows.specs.Fields.{left, right, Within}
+use Rattle.rows.specs.Fields.{TokenRow, NoteRow, RootRow, left, right, Within}
 use Rattle.rows.specs.Codes.{role_code, Fit}
 use Rattle.rows.specs.Standing.{mark}
 use Rattle.rows.specs.InUse.{role_beside}
@@ -24,7 +23,7 @@ use Rattle.canonical_text.proofs.Pairs.{pair_long, pair_fields}
 
 -- An operand that is a pair which stays: where its brackets stand.
 module _ (T : Table) (s : Position) (o : Option Role) where
-  pair_in : {K R O : List ℕ} {n p : ℕ} (t : Tree) → TreeAt K R O n T p t → stays T s o t ≡ true → (x : ℕ) → x ≡ mark p t → PairIn K x
+  pair_in : {K : TokenRow} {R : NoteRow} {O : RootRow} {n p : ℕ} (t : Tree) → TreeAt K R O n T p t → stays T s o t ≡ true → (x : ℕ) → x ≡ mark p t → PairIn K x
   unfolding stays mark
   pair_in nothing h e x d = absurd (clash e refl)
   pair_in (leaf a) h e x d = absurd (clash e refl)
@@ -32,13 +31,13 @@ module _ (T : Table) (s : Position) (o : Option Role) where
       let f : x - 1 ≡ p = omega arith in
       record {
         noted = omega arith;
-        opener = rw f (within 4 n K p h.rows.0 (omega (arith, h.within, bracket_length t)));
-        closes = rw f (rw h.stands.1 (within 4 n K (suc (p + length (flat t))) h.rows.0 (omega (arith, h.within, bracket_length t))));
+        opener = rw f (within n K p h.rows.0 (omega (arith, h.within, bracket_length t)));
+        closes = rw f (rw h.stands.1 (within n K (suc (p + length (flat t))) h.rows.0 (omega (arith, h.within, bracket_length t))));
       }
   pair_in (block ds t) h e x d = absurd (clash e refl)
   pair_in (node l m r) h e x d = absurd (clash e refl)
 
-  pair_place : (K : List ℕ) (p : ℕ) (t : Tree) (b : Bool) (x : ℕ) → b ≡ stays T s o t → x ≡ mark p t
+  pair_place : (K : TokenRow) (p : ℕ) (t : Tree) (b : Bool) (x : ℕ) → b ≡ stays T s o t → x ≡ mark p t
       → kept_pair b K (x - 1) ≡ kept_pair (stays T s o t) K p
   unfolding stays mark kept_pair
   pair_place K p nothing b x e d = rw e
@@ -48,22 +47,22 @@ module _ (T : Table) (s : Position) (o : Option Role) where
   pair_place K p (node l m r) b x e d = rw e
 
 -- A row with a pair kept has every other pair still.
-pair_still : {K : List ℕ} {x : ℕ} (b : Bool) (i : ℕ) → PairIn K x → PairIn (kept_pair b K i) x
+pair_still : {K : TokenRow} {x : ℕ} (b : Bool) (i : ℕ) → PairIn K x → PairIn (kept_pair b K i) x
 pair_still {K} {x} b i h = record {
   noted = h.noted;
   opener = (h.opener.0, omega (arith, pair_long K i b, h.opener.1));
-  closes = rw (pair_fields K i b 3 (x - 1) (omega arith) (λ e. omega arith)) (h.closes.0, omega (arith, pair_long K i b, h.closes.1));
+  closes = rw (ap (λ t. t.closer) (pair_fields K i b (x - 1))) (h.closes.0, omega (arith, pair_long K i b, h.closes.1));
 }
 
-module _ {K R O : List ℕ} {i : ℕ} {T : Table} {j : ℕ} {l : Tree} {m : Bytes} {r : Tree} (h : OperatorAt K R O i T j l m r) where
+module _ {K : TokenRow} {R : NoteRow} {O : RootRow} {i : ℕ} {T : Table} {j : ℕ} {l : Tree} {m : Bytes} {r : Tree} (h : OperatorAt K R O i T j l m r) where
   in_rows : i < h.count
   in_rows = omega (arith, h.place, h.tree.within, node-length l m r)
 
-  pub in_roles : Within 4 R i
-  in_roles = within 4 h.count R i h.tree.rows.1 in_rows
+  pub in_roles : Within R i
+  in_roles = within h.count R i h.tree.rows.1 in_rows
 
-  pub in_roots : Within 2 O i
-  in_roots = within 2 h.count O i h.tree.rows.2 in_rows
+  pub in_roots : Within O i
+  in_roots = within h.count O i h.tree.rows.2 in_rows
 
   -- Its role.
   own : AdmittingRole T (span_tree l) m (span_tree r)
@@ -94,13 +93,12 @@ module _ {K R O : List ℕ} {i : ℕ} {T : Table} {j : ℕ} {l : Tree} {m : Byte
     pub left_operand : OperandAt K R O c x T j l own_role
     left_operand = record { count = h.count; tree = left_at h.tree; marked = noted_left; coded = coded; fit = fits }
 
-    pub right_operand : {K₁ : List ℕ} (a : Bool) → K₁ ≡ kept_pair a K (x - 1) → OperandAt K₁ R O c y T (suc (j + length (flat l))) r own_role
+    pub right_operand : {K₁ : TokenRow} (a : Bool) → K₁ ≡ kept_pair a K (x - 1) → OperandAt K₁ R O c y T (suc (j + length (flat l))) r own_role
     right_operand a k =
         rw k (record {
           count = h.count;
           tree =
-              tree_kept K (kept_pair a K (x - 1)) R (λ i. pair_fields K (x - 1) a 0 i (omega arith) (λ e. omega arith))
-              (λ i. pair_fields K (x - 1) a 3 i (omega arith) (λ e. omega arith)) (pair_long K (x - 1) a) (right_at h.tree);
+              tree_kept K (kept_pair a K (x - 1)) R (pair_fields K (x - 1) a) (pair_long K (x - 1) a) (right_at h.tree);
           marked = noted_right;
           coded = coded;
           fit = fits;
@@ -110,10 +108,10 @@ module _ {K R O : List ℕ} {i : ℕ} {T : Table} {j : ℕ} {l : Tree} {m : Byte
     left_pair p z = pair_in T on_left (some own_role) l (left_at h.tree) (sym p ∙ z) x noted_left
 
     module _ {a b : Bool} (p : a ≡ stays T on_left (some own_role) l) (q : b ≡ stays T on_right (some own_role) r) where
-      pub right_pair : {K₁ : List ℕ} → K₁ ≡ kept_pair a K (x - 1) → b ≡ true → PairIn K₁ y
+      pub right_pair : {K₁ : TokenRow} → K₁ ≡ kept_pair a K (x - 1) → b ≡ true → PairIn K₁ y
       right_pair k z = rw k (pair_still a (x - 1) (pair_in T on_right (some own_role) r (right_at h.tree) (sym q ∙ z) y noted_right))
 
-      pub pairs_kept : {K₁ K₂ : List ℕ} → K₁ ≡ kept_pair a K (x - 1) → K₂ ≡ kept_pair b K₁ (y - 1) → K₂ ≡ kept_beside K T j l m r
+      pub pairs_kept : {K₁ K₂ : TokenRow} → K₁ ≡ kept_pair a K (x - 1) → K₂ ≡ kept_pair b K₁ (y - 1) → K₂ ≡ kept_beside K T j l m r
       unfolding kept_beside
       pairs_kept k k' =
           rw its_role

@@ -1,80 +1,84 @@
 -- A row in which the brackets of a pair have got their byte, if it stays: nothing else has changed.
 use mathlib.Core.Path.{◌≡◌, refl, sym, ap, ◌∙◌}
 use mathlib.Core.Bool.{Bool, true, false}
-use mathlib.Core.List.{List}
-use Prim.Native.Nat.{ℕ, max, ◌+◌, ◌*◌, ◌≤◌, ◌<◌}
+use Prim.Native.Nat.{ℕ, max, ◌≤◌}
 use native.Mathlib.Omega.{arith}
-use lib.ListN.{length, set, get_or}
+use lib.ListN.{length, length-set}
 use lib.Seq.{get_or-set_same, get_or-set_other, set_out}
 use Rattle.grammar.proofs.Logic.{below}
-use Rattle.rows.specs.Fields.{field, store, closer, size, Within}
-use Rattle.rows.proofs.Fields.{store_same, other-field, other_entry, store_length}
-use Rattle.canonical_text.specs.Brackets.{kept_pair, size_if}
+use Rattle.rows.specs.declared.token.Token.{Token}
+use Rattle.rows.specs.Fields.{TokenRow, blank, token, closer, size, Within}
+use Rattle.canonical_text.specs.Brackets.{DiffersInSizes, resized, kept_pair, size_if}
 
--- The stores that make it.
-module _ (K : List ℕ) (o : ℕ) where
-  pub pair_stored : {b : Bool} {K₁ K₂ : List ℕ} {c : ℕ} → b ≡ true → c ≡ closer K o → K₁ ≡ store 4 2 K o 1 → K₂ ≡ store 4 2 K₁ c 1
-      → K₂ ≡ kept_pair b K o
-  unfolding kept_pair
-  pair_stored e f g h = rw e (h ∙ rw (f, g))
+pub sizes_then : (K K' K'' : TokenRow) → DiffersInSizes K K' → DiffersInSizes K' K'' → DiffersInSizes K K''
+sizes_then K K' K'' f g j = g j ∙ ap {A = Token} (λ t. record t { size = size K'' j }) (f j)
 
-  pub pair_left : {b : Bool} → b ≡ false → K ≡ kept_pair b K o
-  unfolding kept_pair
-  pair_left e = rw e
+own_size : (t u : Token) (n : ℕ) → t ≡ record u { size = n } → t ≡ record u { size = t.size }
+own_size t u n e = e ∙ ap {A = ℕ} (λ m. record u { size = m }) (sym (ap (λ v. v.size) e))
 
-  pub within_stored : {K₁ : List ℕ} {j : ℕ} → K₁ ≡ store 4 2 K o 1 → Within 4 K j → Within 4 K₁ j
-  within_stored {K₁} {j} e h = (h.0, omega (arith, ap length e ∙ store_length 4 2 K o 1, h.1))
+-- A row with another size for a token.
+module _ (K : TokenRow) (i n : ℕ) where
+  resized_other : (j : ℕ) → (i ≡ j → ⊥) → token (resized K i n) j ≡ token K j
+  resized_other j d = get_or-set_other K i j _ blank (λ e. d (sym e))
 
--- An entry of a list after a store.
-set_bound : (l : List ℕ) (p q v : ℕ) → get_or (set l p v) q 0 ≤ max v (get_or l q 0)
-set_bound l p q v = below p q (λ h. other (λ e. omega arith)) (λ h. below q p (λ k. other (λ e. omega arith)) (λ k. same (omega arith)))
-  where
-    other : (q ≡ p → ⊥) → get_or (set l p v) q 0 ≤ max v (get_or l q 0)
-    other d = rw (get_or-set_other l p q v 0 d) (omega arith)
+  resized_here : Within K i → token (resized K i n) i ≡ record (token K i) { size = n }
+  resized_here w = get_or-set_same K i _ blank w.1
 
-    same : q ≡ p → get_or (set l p v) q 0 ≤ max v (get_or l q 0)
-    same e = rw e (below p (length l) (λ h. rw (get_or-set_same l p v 0 h) (omega arith)) (λ h. rw (set_out l p v h) (omega arith)))
+  -- Another token, and the same one in a row that has it or not.
+  resized_cases : (j : ℕ) (P : Type 0) → (token (resized K i n) j ≡ token K j → P) → (token (resized K i n) j ≡ record (token K j) { size = n } → P) → P
+  resized_cases j P f g =
+      below i j (λ h. f (resized_other j (λ e. omega arith)))
+      (λ h. below j i (λ k. f (resized_other j (λ e. omega arith)))
+      (λ k. let e : j ≡ i = omega arith in
+      below i (length K) (λ m. g (rw e (get_or-set_same K i _ blank m)))
+      (λ m. f (ap (λ L. token L j) (set_out K i (record (token K i) { size = n }) m)))))
 
-module _ (K : List ℕ) (i : ℕ) where
+  -- No token has changed but for its size.
+  resized_fields : DiffersInSizes K (resized K i n)
+  resized_fields j = resized_cases j _ (own_size _ (token K j) (size K j)) (own_size _ (token K j) n)
+
+  resized_bound : (j : ℕ) → size (resized K i n) j ≤ max n (size K j)
+  resized_bound j =
+      resized_cases j _ (λ e. omega (arith, ap (λ t. t.size) e)) (λ e. omega (arith, ap (λ t. t.size) e))
+
+  resized_long : length (resized K i n) ≡ length K
+  resized_long = length-set K i _
+
+module _ (K : TokenRow) (i : ℕ) where
   pub pair_long : (b : Bool) → length (kept_pair b K i) ≡ length K
   unfolding kept_pair
-  pair_long true = store_length 4 2 (store 4 2 K i 1) (closer K i) 1 ∙ store_length 4 2 K i 1
+  pair_long true = resized_long (resized K i 1) (closer K i) 1 ∙ resized_long K i 1
   pair_long false = refl
 
-  -- Every other field.
-  pub pair_fields : (b : Bool) (k j : ℕ) → k < 4 → (k ≡ 2 → ⊥) → field 4 k (kept_pair b K i) j ≡ field 4 k K j
+  -- Every token but for its size.
+  pub pair_fields : (b : Bool) → DiffersInSizes K (kept_pair b K i)
   unfolding kept_pair
-  pair_fields true k j h d =
-      other-field 4 2 k (store 4 2 K i 1) (closer K i) j 1 (omega arith) h (λ e. d (sym e))
-      ∙ other-field 4 2 k K i j 1 (omega arith) h (λ e. d (sym e))
-  pair_fields false k j h d = refl
+  pair_fields true = sizes_then K (resized K i 1) (resized (resized K i 1) (closer K i) 1) (resized_fields K i 1) (resized_fields (resized K i 1) (closer K i) 1)
+  pair_fields false = λ j. refl
 
   -- The size of every other token.
   pub pair_others : (b : Bool) (j : ℕ) → (i ≡ j → ⊥) → (closer K i ≡ j → ⊥) → size (kept_pair b K i) j ≡ size K j
   unfolding kept_pair
-  pair_others true j d e =
-      other_entry 4 2 2 (store 4 2 K i 1) (closer K i) j 1 (omega arith) (omega arith) e
-      ∙ other_entry 4 2 2 K i j 1 (omega arith) (omega arith) d
+  pair_others true j d e = ap (λ t. t.size) (resized_other (resized K i 1) (closer K i) 1 j e ∙ resized_other K i 1 j d)
   pair_others false j d e = refl
 
   -- No size is above 1 that was not.
   pub pair_small : (b : Bool) (j : ℕ) → size (kept_pair b K i) j ≤ max 1 (size K j)
   unfolding kept_pair
-  pair_small true j =
-      omega (arith, set_bound (store 4 2 K i 1) (closer K i * 4 + 2) (j * 4 + 2) 1, set_bound K (i * 4 + 2) (j * 4 + 2) 1)
+  pair_small true j = omega (arith, resized_bound (resized K i 1) (closer K i) 1 j, resized_bound K i 1 j)
   pair_small false j = omega arith
 
   -- The brackets themselves, which had none.
   module _ (c : ℕ) (e : closer K i ≡ c) (d : i ≡ c → ⊥) where
-    pub pair_opener : (b : Bool) → Within 4 K i → size K i ≡ 0 → size (kept_pair b K i) i ≡ size_if b
+    pub pair_opener : (b : Bool) → Within K i → size K i ≡ 0 → size (kept_pair b K i) i ≡ size_if b
     unfolding kept_pair size_if
     pair_opener true w z =
-        other_entry 4 2 2 (store 4 2 K i 1) (closer K i) i 1 (omega arith) (omega arith) (λ q. d (sym q ∙ e))
-        ∙ store_same 4 2 K i 1 (omega arith) w
+        ap (λ t. t.size) (resized_other (resized K i 1) (closer K i) 1 i (λ q. d (sym q ∙ e)) ∙ resized_here K i 1 w)
     pair_opener false w z = z
 
-    pub pair_closer : (b : Bool) → Within 4 K c → size K c ≡ 0 → size (kept_pair b K i) c ≡ size_if b
+    pub pair_closer : (b : Bool) → Within K c → size K c ≡ 0 → size (kept_pair b K i) c ≡ size_if b
     unfolding kept_pair size_if
     pair_closer true w z =
-        rw e (store_same 4 2 (store 4 2 K i 1) c 1 (omega arith) (within_stored K i refl w))
+        ap (λ x. size (resized (resized K i 1) x 1) c) e
+        ∙ ap (λ t. t.size) (resized_here (resized K i 1) c 1 (w.0, omega (arith, resized_long K i 1, w.1)))
     pair_closer false w z = z

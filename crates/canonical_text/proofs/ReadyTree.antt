@@ -2,7 +2,7 @@
 -- that agrees with the roles are those of the tree, so each part of the tree has a range of its own.
 use mathlib.Core.Path.{◌≡◌, refl, sym, ap, subst, ◌∙◌}
 use mathlib.Core.Bool.{Bool, true, false, ◌&&◌}
-use mathlib.Core.List.{List, [], ◌∷◌}
+use mathlib.Core.List.{[], ◌∷◌}
 use mathlib.Core.Option.{Option, none, some}
 use Prim.Native.Nat.{ℕ, zero, suc, ◌+◌}
 use native.Mathlib.Omega.{arith}
@@ -33,7 +33,7 @@ use Rattle.grammar.proofs.Logic.{and_left, and_right, impossible}
 use Rattle.grammar.proofs.Items.{items-flat}
 use Rattle.grammar.proofs.Scanned.{length_tokens}
 use Rattle.grammar.proofs.DeclarationTokens.{declarations_told}
-use Rattle.rows.specs.Fields.{kind}
+use Rattle.rows.specs.Fields.{TokenRow, NoteRow, RootRow, kind}
 use Rattle.rows.specs.Codes.{Fit, Bounded}
 use Rattle.rows.specs.Tokens.{token_in, atom_of, atom_in, range, IsAtomKind}
 use Rattle.rows.specs.Agreeing.{Agrees}
@@ -86,7 +86,7 @@ unfolding fits_all fit_test start_table start_declarations declare_all declare d
 bounded_start = bounded_by start_table refl
 
 -- The row of tokens has the tokens of a tree.
-abbrev pub Spelled : Bytes → List ℕ → ℕ → Tree → Type 0
+abbrev pub Spelled : Bytes → TokenRow → ℕ → Tree → Type 0
 Spelled text K i nothing = Unit {0}
 Spelled text K i (leaf a) = token_in text K i ≡ atom a
 Spelled text K i (bracket t) = Spelled text K (suc i) t
@@ -104,7 +104,7 @@ symbol_kind (suc (suc zero)) c m h e = impossible cc
 symbol_kind (suc (suc (suc zero))) c m h e = impossible cc
 symbol_kind (suc (suc (suc (suc k)))) c m h e = absurd (omega (arith, h.1))
 
-module _ (text : Bytes) (K R : List ℕ) where
+module _ (text : Bytes) (K : TokenRow) (R : NoteRow) where
   standing :
       (t : Tree) {T : Table} {i to : ℕ} → Agrees text K R T i to → items (range text K i to) ≡ yield (span_tree t)
       → Stands K R T i t × Spelled text K i t
@@ -141,7 +141,7 @@ module _ (text : Bytes) (K R : List ℕ) where
       let y = standing r h.rest h.others in
       rw (← c) ((symbol_kind (kind K a) _ m h.is_atom h.same, h.noted, x.0, y.0), (token, x.1, y.1))
 
-module _ {text : Bytes} {K R O : List ℕ} {r : Reading} (h : Ready text K R O r) where
+module _ {text : Bytes} {K : TokenRow} {R : NoteRow} {O : RootRow} {r : Reading} (h : Ready text K R O r) where
   stands : Stands K R start_table 0 r.tree × Spelled text K 0 r.tree
   stands =
       standing text K R r.tree h.agrees (ap items (stored_tokens h.stored ∙ sym h.is_tree.tokens) ∙ items-flat r.tree)

@@ -20,7 +20,8 @@ use Rattle.grammar.specs.Fault.{longest_text}
 use Rattle.grammar.proofs.Logic.{and_left}
 use Rattle.grammar.proofs.Doubling.{undoubled-doubled}
 use Rattle.grammar.proofs.Names.{short_run, symbol_doubled, bare_alike}
-use Rattle.rows.specs.Fields.{kind, start, size, Within}
+use Rattle.rows.specs.Fields.{TokenRow, NoteRow, token, note, kind, start, size}
+use Rattle.rows.specs.Kinds.{kind_code}
 use Rattle.rows.specs.Tokens.{written_of, token_in, structure_size, size_of, Stored}
 use Rattle.rows.specs.Agreeing.{Noted}
 use Rattle.rows.proofs.TokenBytes.{token_ends, place_plain}
@@ -64,7 +65,7 @@ quoted_token k w c e d = rw e (ap (λ x. atom (quoted x)) (ap undoubled d ∙ un
 quoted_told : {c d : Bytes} → atom (quoted c) ≡ atom (quoted d) → c ≡ d
 quoted_told e = cc
 
-module _ {text : Bytes} {ps : List Placed} {K : List ℕ} (v : Stored text ps K) (j : ℕ) (l : j < length ps) where
+module _ {text : Bytes} {ps : List Placed} {K : TokenRow} (v : Stored text ps K) (j : ℕ) (l : j < length ps) where
   pub stored_bracket : 4 ≤ kind K j → kind K j ≤ 5 → size K j ≡ 0
   stored_bracket p q =
       let k = stored_kind v j l in stored_size v j l ∙ bracket_size (token_in text K j) (omega arith) (omega arith)
@@ -112,26 +113,24 @@ module _ {text : Bytes} {ps : List Placed} {K : List ℕ} (v : Stored text ps K)
       ∙ ap spelling e ∙ ap (λ w. 39 ∷ w ++ 39 ∷ []) (sym d)
 
   -- In the row in which the brackets that stay have their bytes.
-  module _ {K₁ : List ℕ} {T : Table} {t : Tree} (k : KeptRow K T t K₁) where
+  module _ {K₁ : TokenRow} {T : Table} {t : Tree} (k : KeptRow K T t K₁) where
     same_kind : kind K₁ j ≡ kind K j
-    same_kind = k.fields 0 j (omega arith) (λ e. omega arith)
+    same_kind = ap (λ t. kind_code t.kind) (k.fields j)
 
     same_start : start K₁ j ≡ start K j
-    same_start = k.fields 1 j (omega arith) (λ e. omega arith)
+    same_start = ap (λ t. t.start) (k.fields j)
 
     same-written : (4 ≤ kind K j → kind K j ≤ 5 → ⊥) → written_of text K₁ j ≡ written_of text K j
     same-written d =
         ap₂ (λ n s. take n (drop s text)) (k.others j (λ e. d (omega arith) (omega arith)) (λ e. d (omega arith) (omega arith))) same_start
 
-    module _ (R : List ℕ) where
-      pub kept_trimmable : length text ≤ longest_text → Within 4 K j → Within 4 R j → Trimmable text R K₁ j
-      kept_trimmable short w r =
+    module _ (R : NoteRow) where
+      pub kept_trimmable : length text ≤ longest_text → Trimmable text (token K₁ j)
+      kept_trimmable short =
           let z : (kind K₁ j ≡ 3) → size K₁ j ≡ size K j =
           λ e. k.others j (λ q. omega (arith, same_kind)) (λ q. omega (arith, same_kind)) in
           record {
             short = short;
-            token = (w.0, omega (arith, k.long, w.1));
-            roles = r;
             within = omega (arith, same_start, k.small j, stored_within v j l, stored_begins v j l);
             number =
                 λ e. omega (
@@ -156,7 +155,7 @@ module _ {text : Bytes} {ps : List Placed} {K : List ℕ} (v : Stored text ps K)
           (u : Token) → token_in text K j ≡ u → (kind_of u ≡ 2 → ⊥) → (3 ≤ kind_of u → kind_of u ≤ 5 → ⊥) → part_of text R K₁ j ≡ spelling u
       part_token u e d f =
           let n : kind K j ≡ kind_of u = stored_kind v j l ∙ ap kind_of e in
-          part_plain R j _ (λ q. d (sym n ∙ sym same_kind ∙ q)) (λ q. f (omega (arith, same_kind)) (omega (arith, same_kind)))
+          part_plain (note R j).roles _ (λ q. d (sym n ∙ sym same_kind ∙ q)) (λ q. f (omega (arith, same_kind)) (omega (arith, same_kind)))
           ∙ same-written (λ p q. f (omega arith) (omega arith))
           ∙ whole_token (λ p q. f (omega arith) (omega arith))
           ∙ ap spelling e
@@ -166,7 +165,7 @@ module _ {text : Bytes} {ps : List Placed} {K : List ℕ} (v : Stored text ps K)
       unfolding kind_of spelling
       part_digits d e =
           let n : kind K j ≡ 2 = stored_kind v j l ∙ ap kind_of e in
-          part_number R j _ (same_kind ∙ n)
+          part_number (note R j).roles _ (same_kind ∙ n)
           ∙ ap strip (same-written (λ p q. omega arith) ∙ whole_token (λ p q. omega arith) ∙ ap spelling e)
 
       -- A quoted name leaves what is written of its characters under the operators in force.
@@ -184,10 +183,10 @@ module _ {text : Bytes} {ps : List Placed} {K : List ℕ} (v : Stored text ps K)
               let (d, h, i) = quoted_is n in
               same-written (λ p q. omega (arith, n)) ∙ h ∙ ap doubled (quoted_told (sym i ∙ e))
 
-          stays : (b : Bool) → has_roles R j || not (is_symbol (doubled c)) ≡ b → stays_quoted R j (written_of text K₁ j) ≡ b
-          stays b f = ap (stays_quoted R j) named ∙ f
+          stays : (b : Bool) → has_roles (note R j).roles || not (is_symbol (doubled c)) ≡ b → stays_quoted (note R j).roles (written_of text K₁ j) ≡ b
+          stays b f = ap (stays_quoted (note R j).roles) named ∙ f
 
-          roles : (b : Bool) → in_force U (doubled c) ≡ b → has_roles R j ≡ b
+          roles : (b : Bool) → in_force U (doubled c) ≡ b → has_roles (note R j).roles ≡ b
           roles b f = roles_noted U R j c w ∙ f
 
           -- It is written bare or quoted as its bytes as written would be; bare they are its characters.
@@ -201,12 +200,12 @@ module _ {text : Bytes} {ps : List Placed} {K : List ℕ} (v : Stored text ps K)
               (x : Bool) → is_symbol (doubled c) ≡ x → (y : Bool) → in_force U (doubled c) ≡ y
               → part_of text R K₁ j ≡ spelling (atom (written_name U c))
           go true p true q =
-              part_quoted R j _ (same_kind ∙ n) (stays true (rw (roles true q))) ∙ ap (λ b. 39 ∷ b ++ 39 ∷ []) named
+              part_quoted (note R j).roles _ (same_kind ∙ n) (stays true (rw (roles true q))) ∙ ap (λ b. 39 ∷ b ++ 39 ∷ []) named
               ∙ enclosed (sym (bare_alike U c) ∙ rw (p, q))
           go true p false q =
-              part_bare R j _ (same_kind ∙ n) (stays false (rw (roles false q, p))) ∙ named ∙ bare (sym (bare_alike U c) ∙ rw (p, q))
+              part_bare (note R j).roles _ (same_kind ∙ n) (stays false (rw (roles false q, p))) ∙ named ∙ bare (sym (bare_alike U c) ∙ rw (p, q))
           go false p y q =
-              part_quoted R j _ (same_kind ∙ n) (stays true (rw (roles y q, p) (or-true y))) ∙ ap (λ b. 39 ∷ b ++ 39 ∷ []) named
+              part_quoted (note R j).roles _ (same_kind ∙ n) (stays true (rw (roles y q, p) (or-true y))) ∙ ap (λ b. 39 ∷ b ++ 39 ∷ []) named
               ∙ enclosed (sym (bare_alike U c) ∙ rw p)
 
       -- A bracket that stays leaves its byte.
@@ -216,11 +215,11 @@ module _ {text : Bytes} {ps : List Placed} {K : List ℕ} (v : Stored text ps K)
       part_bracket u e p q o z =
           let n : kind K j ≡ kind_of u = stored_kind v j l ∙ ap kind_of e in
           let m : 1 ≡ length (spelling (token_in text K j)) = sym (ap (λ x. length (spelling x)) e ∙ o) in
-          part_plain R j _ (λ x. omega (arith, same_kind)) (λ x. omega (arith, same_kind))
+          part_plain (note R j).roles _ (λ x. omega (arith, same_kind)) (λ x. omega (arith, same_kind))
           ∙ ap₂ (λ x s. take x (drop s text)) (z ∙ m) same_start
           ∙ bytes_here (start K j) (stored_offset v j l (λ x. omega arith))
           ∙ ap spelling e
 
       pub part_none : 4 ≤ kind K j → kind K j ≤ 5 → size K₁ j ≡ 0 → part_of text R K₁ j ≡ []
       part_none p q z =
-          part_plain R j _ (λ x. omega (arith, same_kind)) (λ x. omega (arith, same_kind)) ∙ ap (λ x. take x (drop (start K₁ j) text)) z
+          part_plain (note R j).roles _ (λ x. omega (arith, same_kind)) (λ x. omega (arith, same_kind)) ∙ ap (λ x. take x (drop (start K₁ j) text)) z

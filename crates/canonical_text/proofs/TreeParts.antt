@@ -47,7 +47,7 @@ use Rattle.grammar.specs.SpanTree.{Position, on_left, on_right, root, role_over,
 use Rattle.grammar.specs.Tree.{Tree, nothing, leaf, bracket, block, node, flat, span_tree}
 use Rattle.grammar.specs.Canonical.{without_zeros, or_zero, strip, strip_declaration, written_name, written_atom, fitted, canonical, refuses}
 use Rattle.grammar.proofs.Logic.{and_left}
-use Rattle.rows.specs.Fields.{kind, size}
+use Rattle.rows.specs.Fields.{TokenRow, NoteRow, RootRow, kind, size}
 use Rattle.rows.specs.Tokens.{token_in, tokens_in, Stored}
 use Rattle.rows.specs.Agreeing.{Noted}
 use Rattle.rows.proofs.Ranges.{token_structure}
@@ -182,8 +182,8 @@ name_some T c e = go (is_symbol c && not (in_force T c)) refl
         omega (arith, token_bytes (atom (symbol c)) (and_left (is_symbol c) (not (in_force T c)) h))
     go false h = let z : length (39 ∷ doubled c ++ 39 ∷ []) ≡ 0 = rw (h, written_name) at e in omega arith
 
-module _ {text : Bytes} {ps : List Placed} {K : List ℕ} (v : Stored text ps K) {T₀ : Table} {t₀ : Tree} {K₁ : List ℕ} (k : KeptRow K T₀ t₀ K₁)
-    (R : List ℕ) where
+module _ {text : Bytes} {ps : List Placed} {K : TokenRow} (v : Stored text ps K) {T₀ : Table} {t₀ : Tree} {K₁ : TokenRow} (k : KeptRow K T₀ t₀ K₁)
+    (R : NoteRow) where
   abbrev f : ℕ → Bytes
   f = part_of text R K₁
 
@@ -242,7 +242,7 @@ module _ {text : Bytes} {ps : List Placed} {K : List ℕ} (v : Stored text ps K)
   Parts : Table → ℕ → Bool → Tree → Type 0
   Parts T i b t = parts f i (length (flat t)) ≡ map spelling (flat (wrap_if b (canonical T t)))
 
-  module _ {O : List ℕ} where
+  module _ {O : RootRow} where
     bracket_parts :
         (T : Table) (i : ℕ) (b : Bool) (t : Tree) → TreeAt K R O (length ps) T i (bracket t) → Sized K₁ T i b (bracket t) → Parts T (suc i) false t
         → Parts T i b (bracket t)

@@ -16,7 +16,7 @@ use Rattle.grammar.specs.Tree.{Tree, nothing, leaf, bracket, block, node, flat, 
 use Rattle.grammar.proofs.Logic.{clash}
 use Rattle.grammar.proofs.Operators.{has_role_lem}
 use Rattle.grammar.proofs.AdmittingRole.{admitting_role}
-use Rattle.rows.specs.Fields.{kind, closer, arrival, left, right}
+use Rattle.rows.specs.Fields.{TokenRow, NoteRow, RootRow, kind, closer, arrival, left, right}
 use Rattle.rows.specs.Codes.{role_code, arrival_of}
 use Rattle.rows.specs.Agreeing.{arrival_for}
 use Rattle.rows.specs.Standing.{mark}
@@ -25,7 +25,8 @@ use Rattle.rows.proofs.Fields.{within}
 use Rattle.rows.proofs.AtomRoles.{arrival_has, arrival_operand}
 use Rattle.rows.proofs.InUse.{use_none, use_beside, beside_code, mark-present}
 use Rattle.rows.specs.Below.{Leads, there, through}
-use Rattle.canonical_text.specs.Brackets.{held, Stands, TreeAt}
+use Rattle.rows.specs.Kinds.{kind_code}
+use Rattle.canonical_text.specs.Brackets.{held, Stands, TreeAt, DiffersInSizes}
 
 -- How many tokens a tree has.
 pub bracket_length : (t : Tree) → length (flat (bracket t)) ≡ suc (suc (length (flat t)))
@@ -46,7 +47,7 @@ unfolding flat
 node-length l m r = omega (arith, length-append (flat l) (atom (symbol m) ∷ flat r))
 
 -- The parts of a tree stand where it stands.
-module _ {K R O : List ℕ} {n : ℕ} {T : Table} {i : ℕ} where
+module _ {K : TokenRow} {R : NoteRow} {O : RootRow} {n : ℕ} {T : Table} {i : ℕ} where
   pub inside_at : {t : Tree} → TreeAt K R O n T i (bracket t) → TreeAt K R O n T (suc i) t
   inside_at {t} h = record {
     rows = h.rows;
@@ -99,8 +100,14 @@ module _ {K R O : List ℕ} {n : ℕ} {T : Table} {i : ℕ} where
       within = omega (arith, h.within, node-length l m r);
     }
 
--- A row with the same kinds and closers.
-module _ (K K' R : List ℕ) (kinds : (j : ℕ) → kind K' j ≡ kind K j) (closers : (j : ℕ) → closer K' j ≡ closer K j) where
+-- A row that differs in sizes alone.
+module _ (K K' : TokenRow) (R : NoteRow) (same : DiffersInSizes K K') where
+  kinds : (j : ℕ) → kind K' j ≡ kind K j
+  kinds j = ap (λ t. kind_code t.kind) (same j)
+
+  closers : (j : ℕ) → closer K' j ≡ closer K j
+  closers j = ap (λ t. t.closer) (same j)
+
   stands_kept : (T : Table) (i : ℕ) (t : Tree) → Stands K R T i t → Stands K' R T i t
   stands_kept T i nothing h = tt
   stands_kept T i (leaf a) h = (rw (kinds i) h.0, h.1)
@@ -119,7 +126,7 @@ module _ (K K' R : List ℕ) (kinds : (j : ℕ) → kind K' j ≡ kind K j) (clo
   stands_kept T i (node l m r) h =
       let a = i + length (flat l) in (kinds a ∙ h.0, h.1, stands_kept T i l h.2, stands_kept T (suc a) r h.3)
 
-  pub tree_kept : {O : List ℕ} {n : ℕ} {T : Table} {i : ℕ} {t : Tree} → length K' ≡ length K → TreeAt K R O n T i t → TreeAt K' R O n T i t
+  pub tree_kept : {O : RootRow} {n : ℕ} {T : Table} {i : ℕ} {t : Tree} → length K' ≡ length K → TreeAt K R O n T i t → TreeAt K' R O n T i t
   tree_kept {O} {n} {T} {i} {t} e h = record {
     rows = (omega (arith, h.rows.0), h.rows.1, h.rows.2);
     bounded = h.bounded;
@@ -155,31 +162,31 @@ root_of i (node l m r) p =
     record { at = i + length (flat l); marked = refl; from = omega arith; to = omega (arith, node-length l m r) }
 
 -- What a tree's brackets hold stands in the rows, with the role of its root.
-pub record HeldHere (R O : List ℕ) (n : ℕ) (T : Table) (i : ℕ) (t : Tree) : Type 0 where
+pub record HeldHere (R : NoteRow) (O : RootRow) (n : ℕ) (T : Table) (i : ℕ) (t : Tree) : Type 0 where
   pub before : held_at i t < n
   pub used : role_in_use R O (held_at i t) ≡ role_code (root T (span_tree (held t)))
 
-module _ {K R O : List ℕ} {n : ℕ} where
+module _ {K : TokenRow} {R : NoteRow} {O : RootRow} {n : ℕ} where
   -- From its root one comes to what its brackets hold.
   pub held_leads : {T : Table} (i : ℕ) (t : Tree) → TreeAt K R O n T i t → (a : ℕ) → mark i t ≡ suc a → Leads K O a (held_at i t)
   unfolding mark held_at flat
   held_leads i nothing h a e = absurd (omega arith)
   held_leads i (leaf x) h a e =
       let s : a ≡ i = omega arith in
-      rw s (there (within 4 n K i h.rows.0 (omega (arith, h.within))) (λ k. omega (arith, h.stands.0)))
+      rw s (there (within n K i h.rows.0 (omega (arith, h.within))) (λ k. omega (arith, h.stands.0)))
   held_leads i (bracket t) h a e =
       let s : a ≡ i = omega arith in
       let l : i < n = omega (arith, h.within, bracket_length t) in
       let r = root_of (suc i) t h.inner.0.1 in
       rw s
-      (through r.at (within 4 n K i h.rows.0 l) (within 2 n O i h.rows.2 l) h.stands.0 (h.rooted.0 ∙ r.marked) r.from
+      (through r.at (within n K i h.rows.0 l) (within n O i h.rows.2 l) h.stands.0 (h.rooted.0 ∙ r.marked) r.from
       (held_leads (suc i) t (inside_at h) r.at r.marked))
   held_leads i (block ds t) h a e =
       let s : a ≡ i = omega arith in
-      rw s (there (within 4 n K i h.rows.0 (omega (arith, h.within, block_length ds t))) (λ k. omega (arith, h.stands.0)))
+      rw s (there (within n K i h.rows.0 (omega (arith, h.within, block_length ds t))) (λ k. omega (arith, h.stands.0)))
   held_leads i (node l m r) h a e =
       let s : a ≡ i + length (flat l) = omega arith in
-      rw s (there (within 4 n K (i + length (flat l)) h.rows.0 (omega (arith, h.within, node-length l m r))) (λ k. omega (arith, h.stands.0)))
+      rw s (there (within n K (i + length (flat l)) h.rows.0 (omega (arith, h.within, node-length l m r))) (λ k. omega (arith, h.stands.0)))
 
   -- An operator's role by what is noted of its operands.
   pub operator_role : {T : Table} {i : ℕ} {l : Tree} {m : Bytes} {r : Tree} → TreeAt K R O n T i (node l m r)

@@ -1,43 +1,20 @@
 -- The parts of tokens written one behind the other over the front of a buffer: the first has no space before it, and bytes have been
 -- written exactly where a part has.
-use Rattle.rows.proofs.Fields.{within}
 use mathlib.Core.Path.{◌≡◌, refl, sym, ap, ◌∙◌}
 use mathlib.Core.List.{List, [], ◌∷◌, ◌++◌}
 use Prim.Native.Nat.{ℕ, zero, suc, ◌+◌, ◌-◌, ◌≤◌, ◌<◌}
-use native.Mathlib.Numerals.{add-one}
 use native.Mathlib.Omega.{arith}
-use lib.ListN.{length, take, drop, set, length-append, length-take, length-drop}
+use lib.ListN.{length, drop, length-append, length-take, length-drop}
 use lib.Seq.{sets, length-sets}
 use Rattle.grammar.specs.Canonical.{spaced_pieces, join_pieces}
 use Rattle.grammar.specs.Bytes.{Bytes}
 use Rattle.grammar.specs.Answer.{over}
 use Rattle.byte_strings.specs.Puts.{Put}
-use Rattle.byte_strings.proofs.Suffixes.{part_whole}
 use Rattle.byte_strings.proofs.Puts.{sets_then, sets_over}
-use Rattle.rows.specs.Fields.{Within, start, size}
+use Rattle.rows.specs.Fields.{TokenRow, start, size}
 use Rattle.rows.specs.Tokens.{written_of}
 use Rattle.canonical_text.specs.Pieces.{pieces, behind, InText}
 use Rattle.canonical_text.proofs.Parts.{before_none, before_some, parts_end, parts_next}
-
--- A part with a space and without one.
-pub put_first : {b b' : List ℕ} {n r : ℕ} {p : Bytes} → n ≡ 0 → Put b n p b' r → Put b n (behind n p) b' r
-unfolding behind
-put_first {b} {b'} {n} {r} {p} e h = rw e (rw e at h)
-
-pub put_behind : {b b' : List ℕ} (n : ℕ) {r : ℕ} {p : Bytes} → (n ≡ 0 → ⊥) → Put (set b n 32) (n + 1) p b' r → Put b n (behind n p) b' r
-unfolding behind
-put_behind zero d h = absurd (d refl)
-put_behind {b} {b'} (suc n) {r} {p} d h =
-    record { size = omega (arith, h.size); stored = h.stored ∙ ap (λ k. sets (set b (suc n) 32) k p) (add-one (suc n)) }
-
-pub length_first : (n : ℕ) (p : Bytes) → n ≡ 0 → length (behind n p) ≡ length p
-unfolding behind
-length_first n p e = rw (e, behind)
-
-pub length-behind : (n : ℕ) (p : Bytes) → (n ≡ 0 → ⊥) → length (behind n p) ≡ length p + 1
-unfolding behind
-length-behind zero p d = absurd (d refl)
-length-behind (suc n) p d = omega arith
 
 -- Behind a part that is not empty bytes have been written.
 some_written : (n : ℕ) (p : Bytes) → (length p ≡ 0 → ⊥) → 1 ≤ n + length (behind n p)
@@ -61,28 +38,21 @@ written_next zero m p ps = refl
 written_next (suc n) m p ps = refl
 
 -- Between turns: `n` bytes have been written for the tokens before number `i`.
-pub record Filled (text : Bytes) (K : List ℕ) (to : ℕ) (b₀ b : List ℕ) (n i : ℕ) : Type 0 where
+pub record Filled (text : Bytes) (K : TokenRow) (to : ℕ) (b₀ b : List ℕ) (n i : ℕ) : Type 0 where
   pub size : length b ≡ length b₀
   pub sum : n + length (written n (pieces text K i (to - i))) ≡ length (join_pieces (pieces text K 0 to))
   pub stored : sets b₀ 0 (join_pieces (pieces text K 0 to)) ≡ sets b n (written n (pieces text K i (to - i)))
 
-pub fill_start : {text : Bytes} {K : List ℕ} {to : ℕ} {b : List ℕ} → Filled text K to b b 0 0
+pub fill_start : {text : Bytes} {K : TokenRow} {to : ℕ} {b : List ℕ} → Filled text K to b b 0 0
 unfolding written
 fill_start {text} {K} {to} {b} =
     let e : join_pieces (pieces text K 0 (to - 0)) ≡ join_pieces (pieces text K 0 to) = ap (λ m. join_pieces (pieces text K 0 m)) (omega arith) in
     record { size = refl; sum = omega (arith, ap length e); stored = ap (sets b 0) (sym e) }
 
-module _ {text : Bytes} {K : List ℕ} {to : ℕ} (h : InText text K to) where
+module _ {text : Bytes} {K : TokenRow} {to : ℕ} (h : InText text K to) where
   module _ {i : ℕ} (l : i < to) where
     long_here : length (written_of text K i) ≡ size K i
     long_here = length-take (size K i) (drop (start K i) text) ∙ omega (arith, h.within i l, length-drop (start K i) text)
-
-    pub in_row : Within 4 K i
-    in_row = within 4 to K i h.rows l
-
-    -- The part cut out of the text.
-    pub cut_here : {s z : ℕ} → s ≡ start K i → z ≡ size K i → take (s + z - s) (drop s text) ≡ written_of text K i
-    cut_here {s} {z} d e = part_whole text s z ∙ rw (d, e)
 
     module _ {b₀ b : List ℕ} {n : ℕ} (v : Filled text K to b₀ b n i) where
       -- A turn at a token that leaves nothing.

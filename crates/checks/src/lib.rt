@@ -3,134 +3,154 @@
 
 ghost use Rattle.std.specs.Prelude.{◌≡◌, false, List, ℕ};
 ghost use Rattle.rows.specs.Tokens.{Unblocked};
-ghost use Rattle.checks.specs.Checking.{Checkable, Tokenized, Matched, Classified, offset_in, Checking};
+ghost use Rattle.rows.specs.Fields.{NoteRow, RootRow};
+ghost use Rattle.checks.specs.Checking.{Checkable, Tokenized, Matched, Classified, offset_in, span_in, PlacedIn, SpansChecked, Checking};
+ghost use Rattle.checks.specs.declared.Unread.TheVariants as Why;
 
 use climb::spans;
-use climb::spans::Spans;
-use pairing::Paired;
-use resolving::Resolved;
-use rows::tokens as row;
-use scanner::scan::Scanned;
-use scanner::{classes, scan};
+use refusals::{Refusal, Refused};
+use rows::operands::Operands;
+use rows::roles::Note;
+use rows::token::Token;
+use scanner::scan;
 
-// How many tokens and nodes there are, and the root; the number and the place of a refusal; of 11 the place of the span without a tree and that
-// at which it is lost; or that the text is blank.
-#[derive(Drop)]
-pub enum Checked {
-    Passed {
-        tokens: usize,
-        nodes: usize,
-        root: usize,
-    },
-    Refused {
-        number: u8,
-        offset: usize,
-    },
-    NoTree {
-        span: usize,
-        lost: usize,
-    },
-    Blank,
+// How many tokens and nodes there are, and the token of the root.
+#[derive(Clone, Copy)]
+pub struct Checked {
+    pub tokens: usize,
+    pub nodes: usize,
+    pub root: usize,
+}
+
+// Why a text is not read: a refusal and its offset; or, of 11, the place of the span without a tree and that at which it is lost.
+#[derive(Clone, Copy)]
+pub enum Unread {
+    Refused { refusal: Refusal, offset: usize },
+    NoTree { span: usize, lost: usize },
+}
+
+impl From<Refused> for Unread {
+    ghost from_gives = { λ r u. u ≡ Why.Refused r.refusal r.at };
+
+    fn from(refused: Refused) -> Unread {
+        Unread::Refused {
+            refusal: refused.refusal,
+            offset: refused.at,
+        }
+    }
 }
 
 // The offset of token number `i`; behind the last token stands the end of the text.
-fn offset_of(text: &[u8], tokens: &[u16], count: usize, i: usize) -> usize
-    requires { (R O : List ℕ) × Tokenized text.now tokens.now R O count }
+fn offset_of(text: &[u8], tokens: &[Token], count: usize, i: usize) -> usize
+    requires { (R : NoteRow) × (O : RootRow) × Tokenized text.now tokens.now R O count }
     ensures { result ≡ offset_in text.now tokens.now count i }
 {
     if i < count {
-        return row::offset(tokens, i);
+        return tokens[i].offset();
     }
     text.len()
+}
+
+// The place of a span: the offset of its opener, 0 of the whole text.
+fn span_offset(text: &[u8], tokens: &[Token], count: usize, opener: Option<usize>) -> usize
+    requires { (R : NoteRow) × (O : RootRow) × Tokenized text.now tokens.now R O count }
+    ensures { result ≡ span_in text.now tokens.now count opener }
+{
+    match opener {
+        Some(i) => offset_of(text, tokens, count, i),
+        None => 0,
+    }
+}
+
+// A refusal at a token as one at that token's offset.
+fn at_offset(text: &[u8], tokens: &[Token], count: usize, refused: Refused) -> Refused
+    requires { (R : NoteRow) × (O : RootRow) × Tokenized text.now tokens.now R O count }
+    ensures { PlacedIn text.now tokens.now count refused result }
+{
+    Refused {
+        refusal: refused.refusal,
+        at: offset_of(text, tokens, count, refused.at),
+    }
 }
 
 // Check 11.
 fn check_spans(
     text: &[u8],
-    tokens: &[u16],
-    roles: &[u16],
+    tokens: &[Token],
+    notes: &[Note],
     count: usize,
     nested: bool,
-    roots: &mut [u16],
-) -> Checked
-    requires { Classified text.now tokens.now roles.now roots.old count nested }
-    ensures { Checking text.now tokens.now roles.now roots.new result }
+    roots: &mut [Operands],
+) -> Result<Checked, Unread>
+    requires { Classified text.now tokens.now notes.now roots.old count nested }
+    ensures { SpansChecked text.now tokens.now notes.now roots.new result }
 {
-    match spans::check(tokens, roles, count, nested, roots) {
-        Spans::NoTree { lost } => Checked::NoTree {
-            span: 0,
-            lost: offset_of(text, tokens, count, lost),
-        },
-        Spans::NoTreeBehind { opener, lost } => Checked::NoTree {
-            span: offset_of(text, tokens, count, opener),
-            lost: offset_of(text, tokens, count, lost),
-        },
-        Spans::Trees { nodes, root } => Checked::Passed {
+    match spans::check(tokens, notes, count, nested, roots) {
+        Ok(trees) => Ok(Checked {
             tokens: count,
-            nodes,
-            root,
-        },
+            nodes: trees.nodes,
+            root: trees.root,
+        }),
+        Err(treeless) => Err(Unread::NoTree {
+            span: span_offset(text, tokens, count, treeless.opener),
+            lost: offset_of(text, tokens, count, treeless.lost),
+        }),
     }
 }
 
 // Checks 8 to 11 and 17.
 fn check_blocks(
     text: &[u8],
-    tokens: &[u16],
+    tokens: &[Token],
     count: usize,
     nested: bool,
     blocks: bool,
-    roles: &mut [u16],
-    roots: &mut [u16],
-) -> Checked
-    requires { Matched text.now tokens.now roles.old roots.old count nested × (blocks ≡ false → Unblocked tokens.now count) }
-    ensures { Checking text.now tokens.now roles.new roots.new result }
+    notes: &mut [Note],
+    roots: &mut [Operands],
+) -> Result<Checked, Unread>
+    requires { Matched text.now tokens.now notes.old roots.old count nested × (blocks ≡ false → Unblocked tokens.now count) }
+    ensures { SpansChecked text.now tokens.now notes.new roots.new result }
 {
-    match resolving::resolve_text(text, tokens, count, blocks, roles) {
-        Resolved::Refused { number, at } => Checked::Refused {
-            number,
-            offset: offset_of(text, tokens, count, at),
-        },
-        Resolved::Passed => check_spans(text, tokens, roles, count, nested, roots),
+    if let Err(refused) = resolving::resolve_text(text, tokens, count, blocks, notes) {
+        return Err(at_offset(text, tokens, count, refused).into());
     }
+    check_spans(text, tokens, notes, count, nested, roots)
 }
 
 // Checks 6 to 11 and 17.
 fn check_tokens(
     text: &[u8],
-    tokens: &mut [u16],
+    tokens: &mut [Token],
     count: usize,
-    roles: &mut [u16],
-    roots: &mut [u16],
-) -> Checked
-    requires { Tokenized text.now tokens.old roles.old roots.old count }
-    ensures { Checking text.now tokens.new roles.new roots.new result }
+    notes: &mut [Note],
+    roots: &mut [Operands],
+) -> Result<Checked, Unread>
+    requires { Tokenized text.now tokens.old notes.old roots.old count }
+    ensures { SpansChecked text.now tokens.new notes.new roots.new result }
 {
     match pairing::pair_up(tokens, count) {
-        Paired::Refused { number, at } => Checked::Refused {
-            number,
-            offset: offset_of(text, tokens, count, at),
-        },
-        Paired::Passed { blocks } => check_blocks(text, tokens, count, true, blocks, roles, roots),
+        Ok(blocks) => check_blocks(text, tokens, count, true, blocks, notes, roots),
+        Err(refused) => Err(at_offset(text, tokens, count, refused).into()),
     }
 }
 
-// Checks 2 to 11 and 17 of a text that is not too long.
-pub fn check(text: &[u8], tokens: &mut [u16], roles: &mut [u16], roots: &mut [u16]) -> Checked
-    requires { Checkable text.now tokens.old roles.old roots.old }
-    ensures { Checking text.now tokens.new roles.new roots.new result }
+// Checks 2 to 11 and 17 of a text that is not too long. Of a blank text, which passes, there is nothing to say.
+pub fn check(
+    text: &[u8],
+    tokens: &mut [Token],
+    notes: &mut [Note],
+    roots: &mut [Operands],
+) -> Result<Option<Checked>, Unread>
+    requires { Checkable text.now tokens.old notes.old roots.old }
+    ensures { Checking text.now tokens.new notes.new roots.new result }
 {
-    let table = classes::table();
-    match scan::scan(&table, text, tokens) {
-        Scanned::Refused { number, at } => Checked::Refused { number, offset: at },
-        Scanned::Tokens { count, nested } => {
-            if count == 0 {
-                return Checked::Blank;
-            }
-            if nested {
-                return check_tokens(text, tokens, count, roles, roots);
-            }
-            check_blocks(text, tokens, count, nested, false, roles, roots)
-        }
+    let scanned = scan::scan(text, tokens)?;
+    let count = scanned.count;
+    if count == 0 {
+        return Ok(None);
     }
+    if scanned.nested {
+        return Ok(Some(check_tokens(text, tokens, count, notes, roots)?));
+    }
+    Ok(Some(check_blocks(text, tokens, count, false, false, notes, roots)?))
 }

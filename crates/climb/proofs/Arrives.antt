@@ -1,12 +1,13 @@
 -- Whether an operator may come, by the numbers of the roles.
 use mathlib.Core.Path.{◌≡◌, refl, sym, ap, ◌∙◌}
 use mathlib.Core.Bool.{Bool, true, false, not}
-use mathlib.Core.List.{List}
 use mathlib.Core.Option.{Option, none, some}
 use Prim.Native.Nat.{ℕ}
 use native.Mathlib.Omega.{arith}
 use lib.Dec.{eqb}
+use lib.ListN.{get_or}
 use borrow.Author.Tests.{eq-eqb, ne_eqb}
+use Rattle.std.proofs.lemmas.List.{get_or_default}
 use Rattle.grammar.specs.Bytes.{Bytes}
 use Rattle.grammar.specs.Token.{symbol}
 use Rattle.grammar.specs.Operator.{Prefix, Infix, Postfix, right, Role, Table, role, is_some}
@@ -14,21 +15,26 @@ use Rattle.grammar.specs.SpanTree.{SpanTree, missing, present, fixity_by, root, 
 use Rattle.grammar.specs.Climb.{first_role, left_role, Stack, empty, waiting, taking, takes, admits_prefix, bears, fits_left, fits_below, arrives}
 use Rattle.grammar.proofs.StackItems.{absent_missing}
 use Rattle.grammar.proofs.ClimbInvariant.{keeps_admits}
-use Rattle.rows.specs.Fields.{prefix, infixed, postfix}
-use Rattle.rows.specs.Codes.{side_code, role_code, role_of, Fit, IsRole, Bounded}
+use Rattle.rows.specs.declared.roles.Note.{Note}
+use Rattle.rows.specs.Fields.{NoteRow, no_note, note, prefix, infixed, postfix, Within}
+use Rattle.rows.specs.InUse.{role_between, role_beside}
+use Rattle.rows.specs.Codes.{role_code, role_of, Fit, Bounded}
 use Rattle.rows.specs.Agreeing.{roles_for, Noted}
-use Rattle.rows.proofs.Codes.{no_role, some_role, right-role, role-code, code-role, none_code}
+use Rattle.rows.proofs.Codes.{no_role, some_role, right-role, role-code, none_code}
 use Rattle.climb.specs.Beside.{fits_prefix, arrives_at}
 use Rattle.climb.specs.Searched.{span_mark}
 use Rattle.climb.proofs.Roles.{fit_fixity, fit_root}
 use Rattle.climb.proofs.Waiting.{mark_shows}
 
--- No role is a number of a role, too.
-pub none_is_role : IsRole 0
-unfolding role_of role_code
-none_is_role = (refl, tt)
+-- The note of a token whatever stands for one behind the row, and the role that it gives.
+pub note_read : (R : NoteRow) (i : ℕ) (n : Note) → Within R i → note R i ≡ get_or R i n
+note_read R i n w = get_or_default R i no_note n w.1
 
-module _ (R : List ℕ) (i l q k : ℕ) where
+pub beside_read :
+    (R : NoteRow) (i l r : ℕ) (n : Note) {c : ℕ} → Within R i → c ≡ role_between (get_or R i n).roles l r → c ≡ role_beside R i l r
+beside_read R i l r n w e = e ∙ ap (λ (m : Note). role_between m.roles l r) (sym (note_read R i n w))
+
+module _ (R : NoteRow) (i l q k : ℕ) where
   at_front : eqb l 0 ≡ true → arrives_at R i l q k ≡ fits_prefix (role_of (prefix R i)) (role_of k)
   unfolding arrives_at
   at_front e = rw (arrives_at, e)
@@ -99,11 +105,6 @@ module _ (T : Table) (bounded : Bounded T) where
   widest-role : role_of widest ≡ some (record { precedence = 1200; associativity = right })
   widest-role = right-role widest (omega arith)
 
-  pub taking_is_role : (w : Stack) (k : ℕ) → TakingCode T w k → IsRole k
-  unfolding role_code side_code
-  taking_is_role empty k e = rw (e, widest-role) (refl, (omega arith, omega arith))
-  taking_is_role (waiting l t w) k e = rw e (code-role (taking T l t) (fit_taking l t))
-
   -- 0: no operand is taken.
   pub untaken : (w : Stack) (k : ℕ) → TakingCode T w k → k ≡ 0 → takes T w ≡ false
   unfolding takes is_some
@@ -120,7 +121,7 @@ module _ (T : Table) (bounded : Bounded T) where
       go (some r) f = rw f
 
   -- The test by numbers is the test.
-  module _ (R : List ℕ) (i : ℕ) (m : Bytes) (noted : Noted T R i (symbol m)) where
+  module _ (R : NoteRow) (i : ℕ) (m : Bytes) (noted : Noted T R i (symbol m)) where
     at_prefix : role_of (prefix R i) ≡ role T m Prefix
     unfolding roles_for
     at_prefix = ap role_of noted.prefixed ∙ role-code (role T m Prefix) (bounded m Prefix)
@@ -132,14 +133,6 @@ module _ (T : Table) (bounded : Bounded T) where
     at_postfix : role_of (postfix R i) ≡ role T m Postfix
     unfolding roles_for
     at_postfix = ap role_of noted.postfixed ∙ role-code (role T m Postfix) (bounded m Postfix)
-
-    pub roles_are : IsRole (prefix R i) × IsRole (infixed R i) × IsRole (postfix R i)
-    unfolding roles_for
-    roles_are = (
-      rw noted.prefixed (code-role (role T m Prefix) (bounded m Prefix)),
-      rw noted.between (code-role (role T m Infix) (bounded m Infix)),
-      rw noted.postfixed (code-role (role T m Postfix) (bounded m Postfix)),
-    )
 
     admits-widest : (c : Role) → Fit (some c) → admits on_right (record { precedence = 1200; associativity = right }) (some c) ≡ true
     unfolding root_precedence is_right

@@ -1,14 +1,13 @@
 -- What is read off the rows, by cases: the token behind an item.
 use mathlib.Core.Path.{◌≡◌}
-use mathlib.Core.List.{List}
 use Prim.Native.Nat.{ℕ, suc, ◌≤◌, ◌<◌}
 use native.Mathlib.Omega.{arith}
 use borrow.Author.Tests.{le-leb, lt-leb, eq-eqb, ne_eqb}
-use Rattle.rows.specs.Fields.{kind, closer}
+use Rattle.rows.specs.Fields.{TokenRow, kind, closer}
 use Rattle.climb.specs.Beside.{item_end}
 
 -- The token behind an item.
-module _ (K : List ℕ) (i : ℕ) where
+module _ (K : TokenRow) (i : ℕ) where
   pub end_single : kind K i ≤ 3 → item_end K i ≡ suc i
   unfolding item_end
   end_single h = rw (le-leb (kind K i) 3 h, item_end)

@@ -3,10 +3,11 @@
 use mathlib.Core.Path.{◌≡◌, refl, sym, ap, ◌∙◌}
 use mathlib.Core.Bool.{true, false}
 use mathlib.Core.Logic.{◌⊎◌, inl, inr}
-use mathlib.Core.List.{List, []}
+use mathlib.Core.List.{[]}
 use mathlib.Core.Option.{Option, none, some}
 use Prim.Native.Nat.{ℕ, suc, ◌+◌, ◌≤◌, ◌<◌}
 use native.Mathlib.Omega.{arith}
+use Rattle.std.specs.declared.result.Result.TheVariants.{Ok}
 use Rattle.grammar.specs.Bytes.{Bytes}
 use Rattle.grammar.specs.Operator.{Role, Table, role}
 use Rattle.grammar.specs.Span.{Item, single, pair, scope, items}
@@ -30,18 +31,17 @@ use Rattle.grammar.specs.Climb.{
 }
 use Rattle.grammar.proofs.ClimbReached.{at}
 use Rattle.grammar.proofs.Logic.{impossible, clash}
-use Rattle.rows.specs.Fields.{field, arrival, left, right, prefix, infixed, postfix}
-use Rattle.rows.specs.Codes.{role_code, role_of, Fit, IsRole, Bounded, arrival_of, gives_way_to}
+use Rattle.rows.specs.Fields.{TokenRow, NoteRow, RootRow, operands, arrival, left, right}
+use Rattle.rows.specs.Codes.{role_code, role_of, Fit, Bounded, arrival_of, gives_way_to}
 use Rattle.rows.specs.Tokens.{range}
 use Rattle.rows.specs.Agreeing.{Agrees}
-use Rattle.rows.proofs.Codes.{role-code, code-role}
+use Rattle.rows.proofs.Codes.{role-code}
 use Rattle.rows.proofs.PairedCases.{agrees_paired, paired_ordered}
 use Rattle.rows.proofs.PairedItems.{items_done}
-use Rattle.climb.specs.declared.search.Found.TheVariants.{Root}
 use Rattle.climb.specs.Searched.{width, span_mark, SpanRooted, Searches, InForce}
 use Rattle.climb.specs.Beside.{item_end, arrives_at}
 use Rattle.rows.specs.InUse.{role_beside}
-use Rattle.climb.proofs.Roles.{fit_over, fit_root, gives_same, gives_last}
+use Rattle.climb.proofs.Roles.{fit_over, gives_same, gives_last}
 use Rattle.climb.proofs.Pass.{
   Next,
   last,
@@ -73,13 +73,13 @@ use Rattle.climb.proofs.Waiting.{
   over-code,
   taking-code,
 }
-use Rattle.climb.proofs.Arrives.{widest, TakingCode, taking_is_role, untaken, taken, roles_are, arrives-same}
+use Rattle.climb.proofs.Arrives.{widest, TakingCode, untaken, taken, arrives-same}
 
 -- The innermost operator that waits does not give way, if one waits.
-abbrev pub Stops : List ℕ → List ℕ → ℕ → ℕ → ℕ → Type 0
+abbrev pub Stops : NoteRow → RootRow → ℕ → ℕ → ℕ → Type 0
 Stops R O h d v = (h ≡ 0) ⊎ ((a : ℕ) × (h ≡ suc a) × (gives_way_to (role_of (role_beside R a (left O a) d)) v ≡ false))
 
-module _ (text : Bytes) (T : Table) (K R : List ℕ) (from to : ℕ) where
+module _ (text : Bytes) (T : Table) (K : TokenRow) (R : NoteRow) (from to : ℕ) where
   abbrev pub found : Ending
   found = search T from (items (range text K from to))
 
@@ -89,7 +89,7 @@ module _ (text : Bytes) (T : Table) (K R : List ℕ) (from to : ℕ) where
 
   -- `h` is one more than the innermost operator that waits, `d` one more than the root of what has been read, 0 for none, and `q` the
   -- number of that root's role, `k` that of the role in which what waits takes an operand; `i` is the token that comes.
-  pub record Climbing (O : List ℕ) (h d q k i : ℕ) : Type 0 where
+  pub record Climbing (O : RootRow) (h d q k i : ℕ) : Type 0 where
     pub stack : Stack
     pub current : SpanTree
     pub start : ℕ
@@ -99,14 +99,13 @@ module _ (text : Bytes) (T : Table) (K R : List ℕ) (from to : ℕ) where
     pub inner : q ≡ role_code (root T current)
     pub behind : i ≡ start + width current
     pub rest : Agrees text K R T i to
-    pub is_role : IsRole k
     pub takes_by : d ≡ 0 → TakingCode T stack k
     pub is_taken : present current ≡ true → takes T stack ≡ true
     pub all_take : AllTake T stack
     pub finds : found ≡ climb_from T i (at stack current) (items (range text K i to))
 
   -- The same with the innermost operator that waits taken off, at token `a`.
-  pub record Top (O : List ℕ) (d q i a : ℕ) : Type 0 where
+  pub record Top (O : RootRow) (d q i a : ℕ) : Type 0 where
     pub before : SpanTree
     pub name : Bytes
     pub outer : Stack
@@ -123,7 +122,7 @@ module _ (text : Bytes) (T : Table) (K R : List ℕ) (from to : ℕ) where
     pub all_take : AllTake T (waiting before name outer)
     pub finds : found ≡ climb_from T i (at (waiting before name outer) current) (items (range text K i to))
 
-  pub begins : (O : List ℕ) → InForce text T K R from to → Climbing O 0 0 0 widest from
+  pub begins : (O : RootRow) → InForce text T K R from to → Climbing O 0 0 0 widest from
   unfolding search unread span_mark root role_code present
   begins O f =
       record {
@@ -136,14 +135,13 @@ module _ (text : Bytes) (T : Table) (K R : List ℕ) (from to : ℕ) where
         inner = refl;
         behind = omega (arith, width_missing);
         rest = f.agrees;
-        is_role = taking_is_role T f.bounded empty widest refl;
         takes_by = λ e. refl;
         is_taken = λ e. absurd (clash e refl);
         all_take = tt;
         finds = refl;
       }
 
-  pub top : (O : List ℕ) (h d q k i a : ℕ) → Climbing O h d q k i → h ≡ suc a → Top O d q i a
+  pub top : (O : RootRow) (h d q k i a : ℕ) → Climbing O h d q k i → h ≡ suc a → Top O d q i a
   top O h d q k i a x e = go x.stack x.chain x.is_taken x.all_take x.finds
     where
       go :
@@ -172,13 +170,13 @@ module _ (text : Bytes) (T : Table) (K R : List ℕ) (from to : ℕ) where
           }
 
   -- Where things stand.
-  pub bounds : (O : List ℕ) (h d q k i : ℕ) → Climbing O h d q k i → (from ≤ i) × (i ≤ to) × (h ≤ i) × (d ≤ i)
+  pub bounds : (O : RootRow) (h d q k i : ℕ) → Climbing O h d q k i → (from ≤ i) × (i ≤ to) × (h ≤ i) × (d ≤ i)
   bounds O h d q k i x =
       let b = waits_behind T R from O x.stack h x.start x.chain in
       let m = mark_most x.start x.current in
       (omega (arith, x.behind), paired_ordered (agrees_paired x.rest), omega (arith, x.behind), omega (arith, x.behind, x.mark))
 
-  pub top_bounds : (O : List ℕ) (d q i a : ℕ) → Top O d q i a → (from ≤ a) × (a < i) × (right O a ≤ a)
+  pub top_bounds : (O : RootRow) (d q i a : ℕ) → Top O d q i a → (from ≤ a) × (a < i) × (right O a ≤ a)
   top_bounds O d q i a x =
       let b = waits_behind T R from O x.outer (right O a) x.start x.chain in
       (omega (arith, x.waits_at.place), omega (arith, x.behind), omega (arith, x.waits_at.place))
@@ -197,7 +195,7 @@ module _ (text : Bytes) (T : Table) (K R : List ℕ) (from to : ℕ) where
   absent (apply l m r) i e = impossible cc
 
   pub refuses :
-      (O : List ℕ) (h d q k i : ℕ) → Climbing O h d q k i → i < to → arrival R i ≡ 0 → (d ≡ 0 → ⊥) → Halts i
+      (O : RootRow) (h d q k i : ℕ) → Climbing O h d q k i → i < to → arrival R i ≡ 0 → (d ≡ 0 → ⊥) → Halts i
   refuses O h d q k i x l e n =
       let y = operand_at x.rest l e in
       let s = shown x.current x.start (λ z. n (x.mark ∙ z)) in
@@ -205,27 +203,27 @@ module _ (text : Bytes) (T : Table) (K R : List ℕ) (from to : ℕ) where
 
   -- An operand comes, and is not taken.
   pub untaken_here :
-      (O : List ℕ) (h d q k i : ℕ) → Bounded T → Climbing O h d q k i → i < to → arrival R i ≡ 0 → d ≡ 0 → k ≡ 0 → Halts i
+      (O : RootRow) (h d q k i : ℕ) → Bounded T → Climbing O h d q k i → i < to → arrival R i ≡ 0 → d ≡ 0 → k ≡ 0 → Halts i
   untaken_here O h d q k i b x l e n z =
       let y = operand_at x.rest l e in
       let o = absent x.current x.start (sym x.mark ∙ n) in
       x.finds ∙ rw (y.comes, o) (pass_untaken T i x.stack y.item _ y.is_one (untaken T b x.stack k (x.takes_by n) z))
 
   -- An operand comes behind none.
-  single_rooted : (O : List ℕ) (i : ℕ) (x : Item) → left O i ≡ 0 → right O i ≡ 0 → SpanRooted O i (operand x)
+  single_rooted : (O : RootRow) (i : ℕ) (x : Item) → left O i ≡ 0 → right O i ≡ 0 → SpanRooted O i (operand x)
   single_rooted O i (single a) e f = (e, f)
   single_rooted O i (pair ts) e f = tt
   single_rooted O i (scope ds ts) e f = tt
 
   pub takes_operand :
-      (O O' : List ℕ) (h d q k i : ℕ) → Bounded T → Climbing O h d q k i → i < to → arrival R i ≡ 0 → d ≡ 0 → (k ≡ 0 → ⊥)
+      (O O' : RootRow) (h d q k i : ℕ) → Bounded T → Climbing O h d q k i → i < to → arrival R i ≡ 0 → d ≡ 0 → (k ≡ 0 → ⊥)
       → left O' i ≡ 0 → right O' i ≡ 0 → Same O O' from i → Climbing O' h (suc i) 0 k (item_end K i)
   unfolding span_mark root role_code
   takes_operand O O' h d q k i b x l e n z p r f =
       let y = operand_at x.rest l e in
       let o = absent x.current x.start (sym x.mark ∙ n) in
       let here : i ≡ x.start = omega (arith, x.behind, ap width o, width_missing) in
-      let kept = waits_kept T R from O O' x.stack h x.start (λ k j a b c. f k j a b (omega arith)) x.chain in
+      let kept = waits_kept T R from O O' x.stack h x.start (λ j a b. f j a (omega arith)) x.chain in
       let t = taken T b x.stack k (x.takes_by n) z in
       record {
         stack = x.stack;
@@ -237,7 +235,6 @@ module _ (text : Bytes) (T : Table) (K R : List ℕ) (from to : ℕ) where
         inner = refl;
         behind = y.behind ∙ ap (λ n. i + n) (sym (width_operand y.item));
         rest = y.rest;
-        is_role = x.is_role;
         takes_by = λ w. absurd (omega arith);
         is_taken = λ w. t;
         all_take = x.all_take;
@@ -259,7 +256,7 @@ module _ (text : Bytes) (T : Table) (K R : List ℕ) (from to : ℕ) where
     pub next_last : (i v : ℕ) → Agrees text K R T i to → to ≤ i → v ≡ 2047 → Next T (items (range text K i to)) v
     next_last i v g l e = last (nothing_left i g l) e
 
-    module _ (O : List ℕ) (d q i a : ℕ) (x : Top O d q i a) where
+    module _ (O : RootRow) (d q i a : ℕ) (x : Top O d q i a) where
       -- The numbers of the roles that the search reads.
       pub code : role_beside R a (left O a) d ≡ role_code (role_over T x.before x.name x.current)
       code =
@@ -268,9 +265,6 @@ module _ (text : Bytes) (T : Table) (K R : List ℕ) (from to : ℕ) where
       in_role : role_of (role_beside R a (left O a) d) ≡ role_over T x.before x.name x.current
       in_role = ap role_of code ∙ role-code (role_over T x.before x.name x.current) (fit_over T b x.before x.name x.current)
 
-      pub is_role_lem : IsRole (role_beside R a (left O a) d)
-      is_role_lem = rw code (code-role (role_over T x.before x.name x.current) (fit_over T b x.before x.name x.current))
-
       module _ (v : ℕ) (n : Next T (items (range text K i to)) v) (g : gives_way_to (role_of (role_beside R a (left O a) d)) v ≡ true) where
         finds_closed : found ≡ climb_from T i (at x.outer (apply x.before x.name x.current)) (items (range text K i to))
         finds_closed =
@@ -278,11 +272,11 @@ module _ (text : Bytes) (T : Table) (K R : List ℕ) (from to : ℕ) where
 
         -- It closes, and is what has been read.
         pub closes :
-            (h : ℕ) → h ≡ suc a → (O' : List ℕ)
-            → right O' a ≡ d → left O' a ≡ left O a → ((k j : ℕ) → k < 2 → (a ≡ j → ⊥) → field 2 k O' j ≡ field 2 k O j)
-            → (k : ℕ) → IsRole k → Climbing O' (right O a) h (role_beside R a (left O a) d) k i
+            (h : ℕ) → h ≡ suc a → (O' : RootRow)
+            → right O' a ≡ d → left O' a ≡ left O a → ((j : ℕ) → (j ≡ a → ⊥) → operands O' j ≡ operands O j)
+            → (k : ℕ) → Climbing O' (right O a) h (role_beside R a (left O a) d) k i
         unfolding span_mark root
-        closes h y O' p r f k role =
+        closes h y O' p r f k =
             let w = x.waits_at in
             let l = w.before in
             let place = w.place in
@@ -290,28 +284,27 @@ module _ (text : Bytes) (T : Table) (K R : List ℕ) (from to : ℕ) where
               stack = x.outer;
               current = apply x.before x.name x.current;
               start = x.start;
-              chain = waits_kept T R from O O' x.outer (right O a) x.start (λ k j y z u. f k j y (λ s. omega arith)) x.chain;
+              chain = waits_kept T R from O O' x.outer (right O a) x.start (λ j z u. f j (λ s. omega arith)) x.chain;
               built = record {
                 rooted =
                     rw (← place) (
                       r ∙ w.own,
                       p ∙ x.mark,
-                      (built_kept T R O O' x.start x.before (λ k j y z u. f k j y (λ s. omega arith)) l).rooted,
-                      (built_kept T R O O' (suc a) x.current (λ k j y z u. f k j y (λ s. omega arith)) x.built).rooted,
+                      (built_kept T R O O' x.start x.before (λ j z u. f j (λ s. omega arith)) l).rooted,
+                      (built_kept T R O O' (suc a) x.current (λ j z u. f j (λ s. omega arith)) x.built).rooted,
                     );
               };
               mark = y ∙ ap suc place;
               inner = code;
               behind = omega (arith, x.behind, width_apply x.before x.name x.current);
               rest = x.rest;
-              is_role = role;
               takes_by = λ z. absurd (omega arith);
               is_taken = λ z. x.all_take.0;
               all_take = x.all_take.1;
               finds = finds_closed;
             }
 
-    module _ (O : List ℕ) (h d q k i : ℕ) (x : Climbing O h d q k i) where
+    module _ (O : RootRow) (h d q k i : ℕ) (x : Climbing O h d q k i) where
       -- So the operator that comes waits.
       stays :
           (v : ℕ) → Stops R O h d v → (m : Bytes) → v ≡ arrival_of (role T m) → pushed T m x.stack x.current ≡ waiting x.current m x.stack
@@ -336,13 +329,7 @@ module _ (text : Bytes) (T : Table) (K R : List ℕ) (from to : ℕ) where
               not_given (inl z) = absurd (omega arith)
               not_given (inr (a', z, f)) = let same : a' ≡ a = omega arith in rw (← own, ← same) f
 
-      -- The numbers by which it is tested, and the test.
-      pub are_roles : i < to → (arrival R i ≡ 0 → ⊥) → IsRole (prefix R i) × IsRole (infixed R i) × IsRole (postfix R i)
-      are_roles l n = let y = operator_at x.rest l n in roles_are T b R i y.name y.noted
-
-      pub inner_is : IsRole q
-      inner_is = rw x.inner (code-role (root T x.current) (fit_root T b x.current))
-
+      -- The test of it.
       tested : (l : i < to) (n : arrival R i ≡ 0 → ⊥) → arrives_at R i d q k ≡ arrives T x.current (operator_at x.rest l n).name x.stack
       tested l n =
           let y = operator_at x.rest l n in
@@ -360,7 +347,7 @@ module _ (text : Bytes) (T : Table) (K R : List ℕ) (from to : ℕ) where
             x.finds ∙ rw come.comes (pass_refuses T i x.stack x.current come.name _ come.is_one keeps (sym (tested l (λ z. n (e ∙ z))) ∙ t))
 
         pub waits :
-            arrives_at R i d q k ≡ true → (O' : List ℕ) → left O' i ≡ d → right O' i ≡ h → Same O O' from i
+            arrives_at R i d q k ≡ true → (O' : RootRow) → left O' i ≡ d → right O' i ≡ h → Same O O' from i
             → Climbing O' (suc i) 0 0 (role_beside R i d 1) (suc i)
         unfolding span_mark root role_code present
         waits a O' p r f =
@@ -380,18 +367,17 @@ module _ (text : Bytes) (T : Table) (K R : List ℕ) (from to : ℕ) where
                 refl,
                 record {
                   place = place;
-                  before = built_kept T R O O' x.start x.current (λ k j t u c. f k j t (omega arith) (omega arith)) x.built;
+                  before = built_kept T R O O' x.start x.current (λ j u c. f j (omega arith) (omega arith)) x.built;
                   operates = record { noted = y.noted; is_one = λ z. n (e ∙ z) };
                   own = p ∙ x.mark;
                 },
-                rw r (waits_kept T R from O O' x.stack h x.start (λ k j t u c. f k j t u (omega arith)) x.chain),
+                rw r (waits_kept T R from O O' x.stack h x.start (λ j u c. f j u (omega arith)) x.chain),
               );
               built = record { rooted = tt };
               mark = refl;
               inner = refl;
               behind = omega (arith, width_missing);
               rest = y.rest;
-              is_role = taking_is_role T b (waiting x.current y.name x.stack) (role_beside R i d 1) by;
               takes_by = λ z. by;
               is_taken = λ z. absurd (clash z refl);
               all_take = (arrives-takes T x.current y.name x.stack x.is_taken ok, x.all_take);
@@ -404,7 +390,7 @@ module _ (text : Bytes) (T : Table) (K R : List ℕ) (from to : ℕ) where
     no_role_none (some q) f e = absurd (clash (gives_last q f.1) e)
 
     pub left_over :
-        (O : List ℕ) (d q i a : ℕ) → Top O d q i a → to ≤ i → gives_way_to (role_of (role_beside R a (left O a) d)) 2047 ≡ false → Halts i
+        (O : RootRow) (d q i a : ℕ) → Top O d q i a → to ≤ i → gives_way_to (role_of (role_beside R a (left O a) d)) 2047 ≡ false → Halts i
     unfolding climb_from ending
     left_over O d q i a x l g =
         let o = no_role_none _ (fit_over T b x.before x.name x.current) (rw (in_role O d q i a x) at g) in
@@ -412,11 +398,11 @@ module _ (text : Bytes) (T : Table) (K R : List ℕ) (from to : ℕ) where
         x.finds ∙ rw (nothing_left i x.rest l, e)
 
     -- Nothing more comes, and none waits: what has been read is the tree, if anything has.
-    alone : (O : List ℕ) (w : Stack) (h e : ℕ) → Waits T R from O w h e → h ≡ 0 → (w ≡ empty) × (e ≡ from)
+    alone : (O : RootRow) (w : Stack) (h e : ℕ) → Waits T R from O w h e → h ≡ 0 → (w ≡ empty) × (e ≡ from)
     alone O empty h e c z = (refl, c.1)
     alone O (waiting l m w) h e c z = absurd (omega (arith, c.2))
 
-    module _ (O : List ℕ) (h d q k i : ℕ) (x : Climbing O h d q k i) (l : to ≤ i) (z : h ≡ 0) where
+    module _ (O : RootRow) (h d q k i : ℕ) (x : Climbing O h d q k i) (l : to ≤ i) (z : h ≡ 0) where
       finds_read : found ≡ ending i (finish T (at empty x.current))
       unfolding climb_from
       finds_read = x.finds ∙ rw (nothing_left i x.rest l, (alone O x.stack h x.start x.chain z).0)
@@ -425,7 +411,7 @@ module _ (text : Bytes) (T : Table) (K R : List ℕ) (from to : ℕ) where
       unfolding finish postfix_last ending present
       nothing_read e = finds_read ∙ rw (absent x.current x.start (sym x.mark ∙ e))
 
-      pub ends : (a : ℕ) → d ≡ suc a → Searches O from found (Root a)
+      pub ends : (a : ℕ) → d ≡ suc a → Searches O from found (Ok a)
       unfolding finish closed ending
       ends a e =
           let o = x.current in

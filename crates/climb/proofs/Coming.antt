@@ -2,7 +2,7 @@
 -- The number that the row has of what comes there tells which.
 use mathlib.Core.Path.{◌≡◌, refl, sym, ◌∙◌}
 use mathlib.Core.Bool.{true, false}
-use mathlib.Core.List.{List, ◌∷◌}
+use mathlib.Core.List.{◌∷◌}
 use Prim.Native.Nat.{ℕ, suc, ◌+◌, ◌<◌}
 use native.Mathlib.Omega.{arith}
 use lib.ListN.{length}
@@ -11,7 +11,7 @@ use Rattle.grammar.specs.Token.{symbol}
 use Rattle.grammar.specs.Operator.{Table, role}
 use Rattle.grammar.specs.Span.{Item, single, pair, scope, item_tokens, items}
 use Rattle.grammar.specs.SpanTree.{is_operand_atom, is_operand}
-use Rattle.rows.specs.Fields.{kind, closer, arrival}
+use Rattle.rows.specs.Fields.{TokenRow, NoteRow, kind, closer, arrival}
 use Rattle.rows.specs.Codes.{arrival_of}
 use Rattle.rows.specs.Tokens.{atom_in, range}
 use Rattle.rows.specs.Agreeing.{arrival_for, Noted, Agrees, ends, atoms, brackets, blocks}
@@ -21,7 +21,7 @@ use Rattle.climb.specs.Beside.{item_end}
 use Rattle.climb.proofs.Beside.{end_single, end_bracket, end_block}
 use Rattle.climb.proofs.Roles.{operand_atom, operator_atom}
 
-pub record OperandAt (text : Bytes) (T : Table) (K R : List ℕ) (i to : ℕ) : Type 0 where
+pub record OperandAt (text : Bytes) (T : Table) (K : TokenRow) (R : NoteRow) (i to : ℕ) : Type 0 where
   pub item : Item
   pub comes : items (range text K i to) ≡ item ∷ items (range text K (item_end K i) to)
   pub is_one : is_operand T item ≡ true
@@ -30,7 +30,7 @@ pub record OperandAt (text : Bytes) (T : Table) (K R : List ℕ) (i to : ℕ) : 
   pub closed : 3 < kind K i → closer K i < to
   pub rest : Agrees text K R T (item_end K i) to
 
-pub record OperatorAt (text : Bytes) (T : Table) (K R : List ℕ) (i to : ℕ) : Type 0 where
+pub record OperatorAt (text : Bytes) (T : Table) (K : TokenRow) (R : NoteRow) (i to : ℕ) : Type 0 where
   pub name : Bytes
   pub comes : items (range text K i to) ≡ single (symbol name) ∷ items (range text K (suc i) to)
   pub is_one : is_operand T (single (symbol name)) ≡ false
@@ -38,7 +38,7 @@ pub record OperatorAt (text : Bytes) (T : Table) (K R : List ℕ) (i to : ℕ) :
   pub number : arrival R i ≡ arrival_of (role T name)
   pub rest : Agrees text K R T (suc i) to
 
-module _ {text : Bytes} {T : Table} {K R : List ℕ} where
+module _ {text : Bytes} {T : Table} {K : TokenRow} {R : NoteRow} where
   pub operand_at : {i to : ℕ} → Agrees text K R T i to → i < to → arrival R i ≡ 0 → OperandAt text T K R i to
   unfolding is_operand item_tokens
   operand_at ends h e = absurd (omega arith)

@@ -6,6 +6,7 @@ use mathlib.Core.Option.{Option, some}
 use Prim.Native.Nat.{ℕ, zero, suc, ◌+◌, ◌-◌, ◌≤◌, ◌<◌}
 use native.Mathlib.Omega.{arith}
 use lib.ListN.{length, length-append}
+use Rattle.std.specs.declared.result.Result.TheVariants.{Ok}
 use Rattle.grammar.specs.Bytes.{Bytes}
 use Rattle.grammar.specs.Token.{Atom, Token, atom, symbol}
 use Rattle.grammar.specs.Operator.{Table}
@@ -15,12 +16,11 @@ use Rattle.grammar.specs.Tree.{Tree, nothing, leaf, node, flat}
 use Rattle.grammar.specs.Nodes.{count}
 use Rattle.grammar.specs.Blocks.{hang_item, hang, hang_found, under_operator, tree_in, tree_of}
 use Rattle.grammar.proofs.ClimbExact.{climb_yields}
-use Rattle.rows.specs.Fields.{closer, left}
+use Rattle.rows.specs.Fields.{TokenRow, NoteRow, RootRow, closer, left}
 use Rattle.rows.specs.Tokens.{range}
 use Rattle.rows.specs.Standing.{mark, Rooted}
 use Rattle.rows.proofs.Ranges.{length-range}
 use Rattle.rows.proofs.PairedItems.{items_done, items_single}
-use Rattle.climb.specs.declared.spans.Spans.TheVariants.{Trees}
 use Rattle.climb.specs.Searched.{width, span_mark, SpanRooted, InForce, Checks}
 use Rattle.climb.proofs.Waiting.{width_missing, width_operand, width_apply}
 use Rattle.climb.proofs.Spare.{Opens, spare, spare_to, spare_atom, spare_cut, spare_next, spare_done}
@@ -28,7 +28,7 @@ use Rattle.climb.proofs.Parts.{Opened, Parts, done, own, inner, parts, parts_lon
 use Rattle.climb.proofs.Openers.{Along, along_left, along_right}
 use Rattle.climb.proofs.Found.{FoundTree, SpanFound}
 
-module _ (K O : List ℕ) (inside : Table → List Token → Option Tree) (T : Table) where
+module _ (K : TokenRow) (O : RootRow) (inside : Table → List Token → Option Tree) (T : Table) where
   -- The tree that the span's tree `s` becomes, where it begins at token `p`.
   pub record Hung (p : ℕ) (s : SpanTree) : Type 0 where
     pub tree : Tree
@@ -82,7 +82,7 @@ module _ (K O : List ℕ) (inside : Table → List Token → Option Tree) (T : T
             ));
       }
 
-module _ (text : Bytes) (K R O : List ℕ) where
+module _ (text : Bytes) (K : TokenRow) (R : NoteRow) (O : RootRow) where
   -- An atom as an operand.
   leaf_hung : (inside : Table → List Token → Option Tree) (T : Table) (i : ℕ) (a : Atom) → spare K i ≡ 0 → HangsAt K O inside T i (single a)
   unfolding hang hang_item mark span_mark flat count item_tokens
@@ -180,9 +180,9 @@ module _ (text : Bytes) (K R O : List ℕ) where
   -- The answer with it.
   pub text_answer :
       (T : Table) (n nodes whole : ℕ) → TreeFound (suc n) T 0 n (suc whole) → nodes + spare_to K 0 n ≡ n
-      → Checks text T K n O (tree_of T (range text K 0 n)) (Trees nodes whole)
+      → Checks text T K n O (tree_of T (range text K 0 n)) (Ok (record { nodes = nodes; root = whole }))
   unfolding tree_of
   text_answer T n nodes whole t e =
       let size : length (range text K 0 n) ≡ n = omega (arith, length-range text K 0 n) in
       let same : nodes ≡ count t.tree = omega (arith, t.counted) in
-      rw (size, t.found) ((whole, ap (λ k. Trees k whole) same, t.marks), t.rooted)
+      rw (size, t.found) ((whole, ap (λ (k : ℕ). Ok (record { nodes = k; root = whole })) same, t.marks), t.rooted)

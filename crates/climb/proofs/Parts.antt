@@ -17,7 +17,7 @@ use Rattle.grammar.specs.Tree.{Tree, bracket, block, flat}
 use Rattle.grammar.specs.Nodes.{count}
 use Rattle.grammar.specs.Blocks.{body_table, item_spans, hang_item, under_bracket, under_block}
 use Rattle.grammar.proofs.Logic.{below, impossible}
-use Rattle.rows.specs.Fields.{kind, closer, left}
+use Rattle.rows.specs.Fields.{TokenRow, NoteRow, RootRow, kind, closer, left}
 use Rattle.rows.specs.Codes.{Bounded}
 use Rattle.rows.specs.Tokens.{range, IsAtomKind, IsQuietKind}
 use Rattle.rows.specs.Agreeing.{Agrees, ends, atoms, brackets, blocks}
@@ -47,7 +47,7 @@ use Rattle.climb.proofs.Spare.{
 }
 
 -- An item that begins at token `i` and holds the span of the tokens behind `o` up to `e`, under the operators `U`.
-pub record Opened (text : Bytes) (K : List ℕ) (T : Table) (i o e to : ℕ) (U : Table) : Type 0 where
+pub record Opened (text : Bytes) (K : TokenRow) (T : Table) (i o e to : ℕ) (U : Table) : Type 0 where
   pub item : Item
   pub not_one : (a : Atom) → item ≡ single a → ⊥
   pub before : i ≤ o
@@ -65,19 +65,19 @@ pub record Opened (text : Bytes) (K : List ℕ) (T : Table) (i o e to : ℕ) (U 
   pub wrap : Tree → Tree
   pub hangs :
       (inner : Table → List Token → Option Tree) (u : Tree) → inner U (range text K (suc o) e) ≡ some u → hang_item inner T item ≡ some (wrap u)
-  pub rooted : (O : List ℕ) (u : Tree) → left O o ≡ mark (suc o) u → Rooted O (suc o) u → Rooted O i (wrap u)
+  pub rooted : (O : RootRow) (u : Tree) → left O o ≡ mark (suc o) u → Rooted O (suc o) u → Rooted O i (wrap u)
   pub marked : (u : Tree) → mark i (wrap u) ≡ suc i
   pub counted : (u : Tree) → count (wrap u) ≡ suc (count u)
   pub flat_long : (u : Tree) → length (flat u) ≡ e - suc o → length (flat (wrap u)) ≡ suc e - i
 
-pub data Parts (text : Bytes) (K R : List ℕ) : Table → ℕ → ℕ → Type 0 where
+pub data Parts (text : Bytes) (K : TokenRow) (R : NoteRow) : Table → ℕ → ℕ → Type 0 where
   done : {T : Table} {to : ℕ} → Parts text K R T to to
   own : {T : Table} {i to : ℕ} → i < to → IsAtomKind (kind K i) → Parts text K R T (suc i) to → Parts text K R T i to
   inner :
       {T : Table} {i to : ℕ} (o e : ℕ) (U : Table) → Opened text K T i o e to U → InForce text U K R (suc o) e
       → Parts text K R U (suc o) e → Parts text K R T (suc e) to → Parts text K R T i to
 
-module _ (text : Bytes) (K R : List ℕ) where
+module _ (text : Bytes) (K : TokenRow) (R : NoteRow) where
   -- A token of another kind opens no span.
   edge : (j c n : ℕ) → kind K c ≡ n → (n ≡ 4 → ⊥) → (n ≡ 8 → ⊥) → Opens K j → j ≡ c → ⊥
   edge j c n k d e o s =
@@ -189,7 +189,7 @@ module _ (text : Bytes) (K R : List ℕ) where
       (parts d p) (parts b q)
 
 -- No more nodes are spared than there are tokens.
-pub parts_spare : {text : Bytes} {K R : List ℕ} {T : Table} {i to : ℕ} → Parts text K R T i to → (i ≤ to) × (spare_to K i to ≤ to - i)
+pub parts_spare : {text : Bytes} {K : TokenRow} {R : NoteRow} {T : Table} {i to : ℕ} → Parts text K R T i to → (i ≤ to) × (spare_to K i to ≤ to - i)
 parts_spare {K = K} (done {to = to}) = (omega arith, omega (arith, spare_done K to))
 parts_spare {K = K} (own {i = i} {to = to} l a p) =
     (omega arith, omega (arith, parts_spare p, spare_next K i to l, spare_atom K i a.1))
@@ -209,7 +209,7 @@ parts_spare {K = K} (inner {i = i} {to = to} o e U x f p q) = (
 
 -- All of its tokens are its items'.
 pub parts_long :
-    {text : Bytes} {K R : List ℕ} {T : Table} {i to : ℕ} → Parts text K R T i to
+    {text : Bytes} {K : TokenRow} {R : NoteRow} {T : Table} {i to : ℕ} → Parts text K R T i to
     → i + length (all_item_tokens (items (range text K i to))) ≡ to
 unfolding all_item_tokens item_tokens
 parts_long {text} {K} (done {to = to}) = rw (items_done text K to) (omega arith)

@@ -3,18 +3,17 @@
 use mathlib.Core.Path.{◌≡◌, refl}
 use mathlib.Core.Bool.{true, false}
 use mathlib.Core.Logic.{◌⊎◌, inl, inr, ⊎_elim}
-use mathlib.Core.List.{List}
 use Prim.Native.Nat.{ℕ, zero, suc, ◌+◌, ◌-◌, ◌≤◌, ◌<◌}
 use native.Mathlib.Omega.{arith}
 use lib.Dec.{eqb}
 use borrow.Author.Tests.{eq-eqb, ne_eqb, eqb-true}
 use Rattle.grammar.proofs.Logic.{or_cases}
-use Rattle.rows.specs.Fields.{kind, closer}
+use Rattle.rows.specs.Fields.{TokenRow, kind, closer}
 use Rattle.rows.specs.Tokens.{IsQuietKind}
 use Rattle.climb.specs.Beside.{opens_span}
 
 -- Token `j` opens a span.
-abbrev pub Opens : List ℕ → ℕ → Type 0
+abbrev pub Opens : TokenRow → ℕ → Type 0
 Opens K j = opens_span (kind K j) ≡ true
 
 pub opens_bracket : (k : ℕ) → k ≡ 4 → opens_span k ≡ true
@@ -37,18 +36,18 @@ pub opens_none : (k : ℕ) → (k ≡ 4 → ⊥) → (k ≡ 8 → ⊥) → opens
 unfolding opens_span
 opens_none k d e = rw (ne_eqb k 4 d, ne_eqb k 8 e)
 
-unfoldable pub spare : List ℕ → ℕ → ℕ
+unfoldable pub spare : TokenRow → ℕ → ℕ
 spare K j = elim (opens_span (kind K j)) [ true ↦ 1 | false ↦ elim (eqb (kind K j) 7) [ true ↦ closer K j - j | false ↦ 0 ] ]
 
 -- Of `n` tokens from number `i` on, and of those from number `i` to number `to`.
-unfoldable pub spare_in : List ℕ → ℕ → ℕ → ℕ
+unfoldable pub spare_in : TokenRow → ℕ → ℕ → ℕ
 spare_in K i zero = 0
 spare_in K i (suc n) = spare K i + spare_in K (suc i) n
 
-abbrev pub spare_to : List ℕ → ℕ → ℕ → ℕ
+abbrev pub spare_to : TokenRow → ℕ → ℕ → ℕ
 spare_to K i to = spare_in K i (to - i)
 
-module _ (K : List ℕ) where
+module _ (K : TokenRow) where
   -- At one token, by its kind.
   pub spare_opens : (j : ℕ) → Opens K j → spare K j ≡ 1
   unfolding spare

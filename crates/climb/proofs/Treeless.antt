@@ -6,6 +6,7 @@ use mathlib.Core.Option.{Option, none, some}
 use Prim.Native.Nat.{ℕ, zero, suc, ◌+◌, ◌-◌, ◌≤◌, ◌<◌}
 use native.Mathlib.Omega.{arith}
 use lib.ListN.{length}
+use Rattle.std.specs.declared.result.Result.TheVariants.{Err}
 use Rattle.grammar.specs.Bytes.{Bytes, All}
 use Rattle.grammar.specs.Operator.{Table}
 use Rattle.grammar.specs.Span.{item_tokens, items}
@@ -18,7 +19,7 @@ use Rattle.grammar.proofs.Lists.{all_append}
 use Rattle.grammar.proofs.ClimbExact.{search-climb, found_anywhere}
 use Rattle.grammar.proofs.Spans.{HasTree, first_without_all, spans_have}
 use Rattle.grammar.proofs.Logic.{impossible}
-use Rattle.rows.specs.Fields.{closer}
+use Rattle.rows.specs.Fields.{TokenRow, NoteRow, RootRow, closer}
 use Rattle.rows.specs.Tokens.{range}
 use Rattle.rows.proofs.PairedItems.{items_done, items_single}
 use Rattle.climb.specs.Searched.{InForce, Checks, treeless, treeless_of}
@@ -56,7 +57,7 @@ first_before : {ss : List Span} (rs : List Span) {o : Option ℕ} {k : ℕ} → 
 first_before rs (here e f) = here e f
 first_before rs (later h l) = later h (first_before rs l)
 
-module _ (text : Bytes) (K R : List ℕ) where
+module _ (text : Bytes) (K : TokenRow) (R : NoteRow) where
   -- The span behind token `j` has a tree, or the search of it stops at token `k`.
   abbrev pub TreeBehind : ℕ → Type 0
   TreeBehind j =
@@ -160,7 +161,7 @@ module _ (text : Bytes) (K R : List ℕ) where
       refused_by T n (some j) k (later (t, e) (first_at n p (omega arith) j k (omega arith) l op (λ m a. h m) z))
 
   pub refused_answer :
-      (T : Table) (n : ℕ) (O : List ℕ) (o : Option ℕ) (k : ℕ) → Refused T n o k
-      → Checks text T K n O (tree_of T (range text K 0 n)) (treeless o k)
+      (T : Table) (n : ℕ) (O : RootRow) (o : Option ℕ) (k : ℕ) → Refused T n o k
+      → Checks text T K n O (tree_of T (range text K 0 n)) (Err (treeless o k))
   unfolding treeless_of
-  refused_answer T n O o k r = rw r.none_there (ap₂ treeless (sym r.first) (sym r.lost))
+  refused_answer T n O o k r = rw r.none_there (ap Err (ap₂ treeless (sym r.first) (sym r.lost)))

@@ -2,7 +2,7 @@
 -- behind its left operand. What stands before the place of a store is kept by it.
 use mathlib.Core.Path.{◌≡◌, refl, ap, ◌∙◌}
 use mathlib.Core.Bool.{true, not}
-use mathlib.Core.List.{List, [], ◌∷◌}
+use mathlib.Core.List.{[], ◌∷◌}
 use Prim.Native.Nat.{ℕ, suc, ◌+◌, ◌≤◌, ◌<◌}
 use native.Mathlib.Omega.{arith}
 use lib.Dec.{eqb, eqb-suc-zero}
@@ -14,7 +14,8 @@ use Rattle.grammar.specs.Span.{Item, single, pair, scope, item_tokens, all_item_
 use Rattle.grammar.specs.SpanTree.{SpanTree, missing, operand, apply, yield, present, fixity, role_over}
 use Rattle.grammar.specs.Climb.{Stack, empty, waiting, taking}
 use Rattle.grammar.proofs.ItemsNested.{append_tokens}
-use Rattle.rows.specs.Fields.{field, arrival, left, right}
+use Rattle.rows.specs.declared.operands.Operands.{Operands}
+use Rattle.rows.specs.Fields.{NoteRow, RootRow, operands, arrival, left, right}
 use Rattle.rows.specs.Codes.{role_code}
 use Rattle.rows.specs.Agreeing.{Noted}
 use Rattle.climb.specs.Searched.{width, span_mark, SpanRooted}
@@ -59,74 +60,80 @@ mark_most i (operand x) = omega (arith, width_operand x, item_tokens_lem x)
 mark_most i (apply l m r) = omega (arith, width_apply l m r)
 
 -- Rows that agree from one token to another.
-abbrev pub Same : List ℕ → List ℕ → ℕ → ℕ → Type 0
-Same O O' from to = (k j : ℕ) → k < 2 → from ≤ j → j < to → field 2 k O' j ≡ field 2 k O j
+abbrev pub Same : RootRow → RootRow → ℕ → ℕ → Type 0
+Same O O' from to = (j : ℕ) → from ≤ j → j < to → operands O' j ≡ operands O j
 
-pub rooted_kept : (O O' : List ℕ) (i : ℕ) (s : SpanTree) → Same O O' i (i + width s) → SpanRooted O i s → SpanRooted O' i s
+pub same_left : {x y : Operands} → x ≡ y → x.left ≡ y.left
+same_left e = ap (λ (o : Operands). o.left) e
+
+pub same_right : {x y : Operands} → x ≡ y → x.right ≡ y.right
+same_right e = ap (λ (o : Operands). o.right) e
+
+pub rooted_kept : (O O' : RootRow) (i : ℕ) (s : SpanTree) → Same O O' i (i + width s) → SpanRooted O i s → SpanRooted O' i s
 rooted_kept O O' i missing f r = tt
 rooted_kept O O' i (operand (single a)) f r =
     let b : i < i + width (operand (single a)) = omega (arith, width_operand (single a), item_tokens_lem (single a)) in
-    (f 0 i (omega arith) (omega arith) b ∙ r.0, f 1 i (omega arith) (omega arith) b ∙ r.1)
+    (same_left (f i (omega arith) b) ∙ r.0, same_right (f i (omega arith) b) ∙ r.1)
 rooted_kept O O' i (operand (pair ts)) f r = tt
 rooted_kept O O' i (operand (scope ds ts)) f r = tt
 rooted_kept O O' i (apply l m r) f h =
     let a = i + width l in
     let w = width_apply l m r in (
-      f 0 a (omega arith) (omega arith) (omega arith) ∙ h.0,
-      f 1 a (omega arith) (omega arith) (omega arith) ∙ h.1,
-      rooted_kept O O' i l (λ k j b x y. f k j b x (omega arith)) h.2,
-      rooted_kept O O' (suc a) r (λ k j b x y. f k j b (omega arith) (omega arith)) h.3,
+      same_left (f a (omega arith) (omega arith)) ∙ h.0,
+      same_right (f a (omega arith) (omega arith)) ∙ h.1,
+      rooted_kept O O' i l (λ j x y. f j x (omega arith)) h.2,
+      rooted_kept O O' (suc a) r (λ j x y. f j (omega arith) (omega arith)) h.3,
     )
 
-module _ (T : Table) (R : List ℕ) where
+module _ (T : Table) (R : NoteRow) where
   -- An operator stands at a token.
   pub record Operates (a : ℕ) (m : Bytes) : Type 0 where
     pub noted : Noted T R a (symbol m)
     pub is_one : arrival R a ≡ 0 → ⊥
 
   -- A tree that begins at token `i`, with all of its roots in the row.
-  pub record Built (O : List ℕ) (i : ℕ) (s : SpanTree) : Type 0 where
+  pub record Built (O : RootRow) (i : ℕ) (s : SpanTree) : Type 0 where
     pub rooted : SpanRooted O i s
 
   -- The operator `m` at token `a` waits, with the left operand `l` that begins at token `s`.
-  pub record WaitsAt (O : List ℕ) (s a : ℕ) (l : SpanTree) (m : Bytes) : Type 0 where
+  pub record WaitsAt (O : RootRow) (s a : ℕ) (l : SpanTree) (m : Bytes) : Type 0 where
     pub place : a ≡ s + width l
     pub before : Built O s l
     pub operates : Operates a m
     pub own : left O a ≡ span_mark s l
 
   -- The operators that wait behind token `from`: `h` is one more than the innermost, 0 if none waits, and `e` the token behind it.
-  abbrev pub Waits : ℕ → List ℕ → Stack → ℕ → ℕ → Type 0
+  abbrev pub Waits : ℕ → RootRow → Stack → ℕ → ℕ → Type 0
   Waits from O empty h e = (h ≡ 0) × (e ≡ from)
   Waits from O (waiting l m w) h e = (s : ℕ) × (a : ℕ) × (h ≡ suc a) × (e ≡ suc a) × WaitsAt O s a l m × Waits from O w (right O a) s
 
-  pub waits_behind : (from : ℕ) (O : List ℕ) (w : Stack) (h e : ℕ) → Waits from O w h e → (from ≤ e) × (h ≤ e)
+  pub waits_behind : (from : ℕ) (O : RootRow) (w : Stack) (h e : ℕ) → Waits from O w h e → (from ≤ e) × (h ≤ e)
   waits_behind from O empty h e c = (omega arith, omega arith)
   waits_behind from O (waiting l m w) h e (s, a, p, q, t, c) =
       let b = waits_behind from O w (right O a) s c in
       (omega (arith, t.place), omega arith)
 
   -- Rows that agree there have the same.
-  pub built_kept : (O O' : List ℕ) (i : ℕ) (s : SpanTree) → Same O O' i (i + width s) → Built O i s → Built O' i s
+  pub built_kept : (O O' : RootRow) (i : ℕ) (s : SpanTree) → Same O O' i (i + width s) → Built O i s → Built O' i s
   built_kept O O' i s f b = record { rooted = rooted_kept O O' i s f b.rooted }
 
   pub waits_kept :
-      (from : ℕ) (O O' : List ℕ) (w : Stack) (h e : ℕ) → Same O O' from e → Waits from O w h e → Waits from O' w h e
+      (from : ℕ) (O O' : RootRow) (w : Stack) (h e : ℕ) → Same O O' from e → Waits from O w h e → Waits from O' w h e
   waits_kept from O O' empty h e f c = c
   waits_kept from O O' (waiting l m w) h e f (s, a, p, q, t, c) =
       let b = waits_behind from O w (right O a) s c in
-      let same = f 1 a (omega arith) (omega (arith, t.place)) (omega arith) in (
+      let here = f a (omega (arith, t.place)) (omega arith) in (
         s,
         a,
         p,
         q,
         record {
           place = t.place;
-          before = built_kept O O' s l (λ k j x y z. f k j x (omega arith) (omega (arith, t.place))) t.before;
+          before = built_kept O O' s l (λ j y z. f j (omega arith) (omega (arith, t.place))) t.before;
           operates = t.operates;
-          own = f 0 a (omega arith) (omega (arith, t.place)) (omega arith) ∙ t.own;
+          own = same_left here ∙ t.own;
         },
-        rw same (waits_kept from O O' w (right O a) s (λ k j x y z. f k j x y (omega (arith, t.place))) c),
+        rw (same_right here) (waits_kept from O O' w (right O a) s (λ j y z. f j y (omega (arith, t.place))) c),
       )
 
   -- The number of the role in which an operator stands over operands with these marks.

@@ -1,21 +1,24 @@
 -- The parts of a declaration over tokens. Each part of `declaration` looks at one token: behind the last token and at a token of another
 -- kind it refuses, which is one law for all parts; at a token of its kind it goes on by the number that its bytes stand for.
-use mathlib.Core.Path.{◌≡◌, refl, sym, ap, ◌∙◌}
-use mathlib.Core.Bool.{true, false}
+use mathlib.Core.Path.{◌≡◌, refl, sym}
+use mathlib.Core.Bool.{Bool, true, false}
 use mathlib.Core.List.{List, [], ◌∷◌}
-use mathlib.Core.Option.{none}
-use Prim.Native.Nat.{ℕ, ◌+◌}
+use mathlib.Core.Option.{none, some}
+use Prim.Native.Nat.{ℕ}
 use borrow.Author.Tests.{ne_eqb}
 use Rattle.grammar.specs.Bytes.{Bytes, same}
 use Rattle.grammar.specs.Token.{Token, atom, structure, symbol, number, quoted, structure_number, is_structure}
 use Rattle.grammar.specs.Operator.{Fixity, Associativity}
-use Rattle.grammar.specs.Coded.{kind_of, fixity_code, fixity_of}
+use Rattle.grammar.specs.Coded.{kind_of}
+use Rattle.grammar.proofs.Logic.{impossible}
 use Rattle.grammar.specs.Declaration.{
   Declaration,
   Parsed,
   declares,
   clears,
   plain_word,
+  fixity_named,
+  is_precedence,
   value,
   unfit,
   symbol_of,
@@ -29,11 +32,8 @@ use Rattle.grammar.specs.Declaration.{
   first_word,
   declaration,
 }
-use Rattle.rows.specs.Codes.{side_code}
-use Rattle.declaration_part.specs.declared.parse.Parsed.TheVariants.{Role}
-use Rattle.declaration_part.specs.Parsing.{precedence_code, fixity_number, associativity_number}
-use Rattle.declaration_part.proofs.Precedences.{precedence_zero, precedence_positive}
-use Rattle.declaration_part.proofs.Words.{side_of, fixity_number_lem, associativity-number}
+use Rattle.std.specs.Prelude.{Some, None}
+use Rattle.declaration_part.specs.Named.{precedence_read}
 
 -- What a token of another kind is not.
 symbol_other : (t : Token) → (kind_of t ≡ 1 → ⊥) → symbol_of t ≡ none
@@ -87,49 +87,52 @@ module _ (w : Bytes) (ts : List Token) where
   unfolding first_word
   word_plain e = rw (e, first_word)
 
-  module _ (e : same w plain_word ≡ false) (f : ℕ) (g : f ≡ fixity_number w) where
-    pub word-other : f ≡ 0 → first_word w ts ≡ unfit 0
+  module _ (e : same w plain_word ≡ false) where
+    pub word-other : fixity_named w ≡ none → first_word w ts ≡ unfit 0
     unfolding first_word
-    word-other z = rw (e, (fixity_number_lem w).nothing (sym g ∙ z), first_word)
+    word-other z = rw (e, z, first_word)
 
-    pub word-fixity : (f ≡ 0 → ⊥) → first_word w ts ≡ associativity_part (fixity_of f) ts
+    pub word-fixity : (f : Fixity) → fixity_named w ≡ some f → first_word w ts ≡ associativity_part f ts
     unfolding first_word
-    word-fixity n = rw (e, (fixity_number_lem w).found (λ z. n (g ∙ z)), first_word) (ap (λ f. associativity_part (fixity_of f) ts) (sym g))
+    word-fixity f z = rw (e, z, first_word)
 
 -- What the associativity's word says.
-module _ (f : ℕ) (w : Bytes) (ts : List Token) (a : ℕ) (g : a ≡ associativity_number f w) where
-  pub side_other : a ≡ 0 → associativity_part (fixity_of f) (atom (symbol w) ∷ ts) ≡ unfit 1
+module _ (f : Fixity) (w : Bytes) (ts : List Token) where
+  pub side_other : associativity_for f (atom (symbol w)) ≡ none → associativity_part f (atom (symbol w) ∷ ts) ≡ unfit 1
   unfolding associativity_part
-  side_other z = rw ((associativity-number f w).nothing (sym g ∙ z), associativity_part)
+  side_other z = rw (z, associativity_part)
 
   pub side_named :
-      (a ≡ 0 → ⊥) → associativity_part (fixity_of f) (atom (symbol w) ∷ ts) ≡ precedence_part (fixity_of f) (side_of a) ts
+      (a : Associativity) → associativity_for f (atom (symbol w)) ≡ some a → associativity_part f (atom (symbol w) ∷ ts) ≡ precedence_part f a ts
   unfolding associativity_part
-  side_named n =
-      rw ((associativity-number f w).found (λ z. n (g ∙ z)), associativity_part)
-      (ap (λ a. precedence_part (fixity_of f) (side_of a) ts) (sym g))
+  side_named a z = rw (z, associativity_part)
 
 -- What the number says.
-module _ (f : Fixity) (a : Associativity) (d : Bytes) (ts : List Token) (p : ℕ) (g : p ≡ precedence_code d) where
-  pub digits_other : p ≡ 0 → precedence_part f a (atom (number d) ∷ ts) ≡ unfit 2
+module _ (f : Fixity) (a : Associativity) (d : Bytes) (ts : List Token) where
+  pub digits_other : is_precedence d ≡ false → precedence_part f a (atom (number d) ∷ ts) ≡ unfit 2
   unfolding precedence_part precedence_of
-  digits_other z = rw (precedence_zero d (sym g ∙ z), precedence_part)
+  digits_other z = rw (z, precedence_part)
 
-  pub digits_given : (p ≡ 0 → ⊥) → precedence_part f a (atom (number d) ∷ ts) ≡ operator_part 3 (declares f a d) ts
+  pub digits_given : is_precedence d ≡ true → precedence_part f a (atom (number d) ∷ ts) ≡ operator_part 3 (declares f a d) ts
   unfolding precedence_part precedence_of
-  digits_given n = rw ((precedence_positive d (λ z. n (g ∙ z))).0, precedence_part)
+  digits_given z = rw (z, precedence_part)
 
--- What the code answers is made of the numbers that were read.
-pub role_said :
-    (v w d : Bytes) (f a p : ℕ) → f ≡ fixity_number v → (f ≡ 0 → ⊥) → a ≡ associativity_number f w → (a ≡ 0 → ⊥)
-    → p ≡ precedence_code d → (p ≡ 0 → ⊥) → {place end from to : ℕ} → place ≡ from → end ≡ to
-    → Role f (a + p) place end ≡ Role (fixity_code (fixity_of f)) (side_code (side_of a) + value d) from to
-role_said v w d f a p ef nf ea na ep np b e =
-    let f' : fixity_code (fixity_of f) ≡ f =
-    ap (λ f. fixity_code (fixity_of f)) ef ∙ (fixity_number_lem v).back (λ z. nf (ef ∙ z)) ∙ sym ef
-    in
-    let a' : side_code (side_of a) ≡ a =
-    ap (λ a. side_code (side_of a)) ea ∙ (associativity-number f w).back (λ z. na (ea ∙ z)) ∙ sym ea
-    in
-    let p' : value d ≡ p = sym (precedence_positive d (λ z. np (ep ∙ z))).1 ∙ sym ep in
-    cc
+-- What is read of the digits.
+module _ (d : Bytes) where
+  read-cases : (b : Bool) → is_precedence d ≡ b → precedence_read d ≡ elim b [ true ↦ Some (value d) | false ↦ None ]
+  unfolding precedence_read
+  read-cases b e = rw (e, precedence_read)
+
+  pub read_none : precedence_read d ≡ None → is_precedence d ≡ false
+  read_none z = go (is_precedence d) refl
+    where
+      go : (b : Bool) → is_precedence d ≡ b → is_precedence d ≡ false
+      go true e = impossible (cc (read-cases true e))
+      go false e = e
+
+  pub read_some : (p : ℕ) → Some p ≡ precedence_read d → (is_precedence d ≡ true) × (p ≡ value d)
+  read_some p z = go (is_precedence d) refl
+    where
+      go : (b : Bool) → is_precedence d ≡ b → (is_precedence d ≡ true) × (p ≡ value d)
+      go true e = (e, cc (read-cases true e))
+      go false e = impossible (cc (read-cases false e))

@@ -14,22 +14,24 @@ use Rattle.grammar.specs.Coded.{token_of}
 use Rattle.grammar.specs.Answer.{offset_of}
 use Rattle.grammar.specs.Declaration as D
 use Rattle.grammar.specs.Declaration.{Declaration, unfit, parsed, symbol_of, is_semicolon, closed, operator_part, declaration}
-use Rattle.grammar.proofs.Logic.{clash}
-use Rattle.rows.specs.Fields.{kind, start, size}
+use Rattle.grammar.proofs.Logic.{clash, impossible}
+use Rattle.rows.specs.Fields.{TokenRow, kind, start, size}
 use Rattle.rows.specs.Tokens.{written_of, token_in, tokens_in, range, Stored}
 use Rattle.rows.proofs.Ranges.{range_next}
 use Rattle.rows.proofs.Stored.{stored_kind, stored_offset}
-use Rattle.declaration_part.specs.declared.parse.Parsed.{Parsed}
-use Rattle.declaration_part.specs.declared.parse.Parsed.TheVariants.{Unfit}
+use Rattle.declaration_part.specs.declared.walk.Span.{Span}
+use Rattle.declaration_part.specs.declared.parse.Declaration as C
 use Rattle.scanner.specs.Places.{token_end}
 use Rattle.declaration_part.specs.Walking.{Next}
-use Rattle.declaration_part.specs.Parsing.{Parses}
-use Rattle.declaration_part.specs.Parts.{stands, written_from, operator_end}
-use Rattle.declaration_part.proofs.Parts.{stands_here, stands-cases, standing, from_here, from_none, end_operator, end_semicolon, end_behind}
+use Rattle.std.specs.Prelude.{Result, Ok, Err, IsOkAnd}
+use Rattle.declaration_part.specs.Parsing.{IsPlace, Denotes, Parses}
+use Rattle.declaration_part.specs.Parts.{stands, operator_at}
+use Rattle.declaration_part.specs.Parts as P
+use Rattle.declaration_part.proofs.Parts.{stands_here, stands-cases, standing, closed_operator, closed_semicolon, closed_behind}
 use Rattle.declaration_part.proofs.TokenPlaces.{ends_there, next_there}
 use Rattle.declaration_part.proofs.DeclarationParts.{Refuses, operator_refuses, closed-refuses}
 
-module _ {text : Bytes} {ps : List Placed} {K : List ℕ} (v : Stored text ps K) (from to : ℕ) (h : to < length ps) where
+module _ {text : Bytes} {ps : List Placed} {K : TokenRow} (v : Stored text ps K) (from to : ℕ) (h : to < length ps) where
   range_end : (at : ℕ) → to ≤ at → range text K at to ≡ []
   unfolding tokens_in
   range_end at l = let e : to - at ≡ 0 = omega arith in rw e
@@ -54,73 +56,65 @@ module _ {text : Bytes} {ps : List Placed} {K : List ℕ} (v : Stored text ps K)
       ∙ ap (λ j. token_of j (written_of text K at) ∷ range text K (suc at) to) p.1
       ∙ ap (λ n. token_of k (written_of text K at) ∷ range text K n to) (sym (add-one at))
 
-  -- The declaration is what a part makes of the tokens from number `at` on, the first of which stands from `place` to `end`.
-  pub record Gone (part : List Token → D.Parsed) (at place end : ℕ) : Type 0 where
+  -- The declaration is what a part makes of the tokens from number `at` on, the first of which stands at a place.
+  pub record Gone (part : List Token → D.Parsed) (at : ℕ) (place : Span) : Type 0 where
     pub goes : declaration (range text K from to) ≡ part (range text K at to)
-    pub begins : at < to → (kind K at ≡ 3 → ⊥) → place ≡ start K at
-    pub ends : end ≡ token_end text place
+    pub begins : at < to → (kind K at ≡ 3 → ⊥) → place.start ≡ start K at
+    pub ends : place.end ≡ token_end text place.start
 
   -- What the code answers agrees with the declaration.
-  abbrev pub Answered : Parsed → Type 0
+  abbrev pub Answered : Result C.Declaration ℕ → Type 0
   Answered = Parses K from (declaration (range text K from to))
 
-  unfit_at : (n at : ℕ) → at ≡ from + n → declaration (range text K from to) ≡ unfit n → Answered (Unfit at)
-  unfit_at n at a e = subst (λ p. Parses K from p (Unfit at)) (sym e) (ap Unfit a)
+  unfit_at : (n at : ℕ) → at ≡ from + n → declaration (range text K from to) ≡ unfit n → Answered (Err at)
+  unfit_at n at a e = subst (λ p. Parses K from p (Err at)) (sym e) (ap Err a)
 
-  module _ {part : List Token → D.Parsed} {at place end : ℕ} (g : Gone part at place end) where
+  module _ {part : List Token → D.Parsed} {at : ℕ} {place : Span} (g : Gone part at place) where
     module _ (k : ℕ) (d : k < 3) (s : stands k K at to ≡ true) where
-      pub begins_here : place ≡ start K at
+      pub begins_here : place.start ≡ start K at
       begins_here = let p = standing k K at to s in g.begins p.0 (λ q. omega (arith, p.1))
 
-      pub ends_here : end ≡ start K at + size K at
+      pub ends_here : place.end ≡ start K at + size K at
       ends_here =
           let p = standing k K at to s in
           g.ends ∙ ends_there v at (omega arith) (λ q. omega (arith, p.1)) begins_here
 
-    module _ (k : ℕ) (d : k < 3) (w : Bytes) (e : w ≡ written_from k text K at to place end) where
-      written_here : stands k K at to ≡ true → w ≡ written_of text K at
-      written_here s =
-          let n : end - place ≡ size K at = omega (arith, begins_here k d s, ends_here k d s) in
-          e ∙ from_here k K at to text place end s ∙ ap₂ (λ n x. take n (drop x text)) n (begins_here k d s)
+      written_here : P.part text place ≡ written_of text K at
+      written_here =
+          let n : place.end - place.start ≡ size K at = omega (arith, begins_here, ends_here) in
+          ap₂ (λ n x. take n (drop x text)) n begins_here
 
-      read_here : stands k K at to ≡ true → range text K at to ≡ token_of k w ∷ range text K (at + 1) to
-      read_here s = here_at k at s ∙ ap (λ c. token_of k c ∷ range text K (at + 1) to) (sym (written_here s))
+      read_here : range text K at to ≡ token_of k (P.part text place) ∷ range text K (at + 1) to
+      read_here = here_at k at s ∙ ap (λ c. token_of k c ∷ range text K (at + 1) to) (sym written_here)
 
-      -- The part refuses what is read.
-      pub read_unfit : (n : ℕ) → at ≡ from + n → Refuses part k n → ((ts : List Token) → part (token_of k w ∷ ts) ≡ unfit n) → Answered (Unfit at)
-      read_unfit n a r u = unfit_at n at a (g.goes ∙ go (stands k K at to) refl)
-        where
-          go : (b : Bool) → stands k K at to ≡ b → part (range text K at to) ≡ unfit n
-          go true s = ap part (read_here s) ∙ u _
-          go false s = refused_at r at s
+    -- The part refuses where nothing is read, ..
+    pub none_unfit : (k n : ℕ) → at ≡ from + n → Refuses part k n → stands k K at to ≡ false → Answered (Err at)
+    none_unfit k n a r s = unfit_at n at a (g.goes ∙ refused_at r at s)
+
+    module _ (k : ℕ) (d : k < 3) (s : stands k K at to ≡ true) where
+      -- .. and what is read.
+      pub read_unfit : (n : ℕ) → at ≡ from + n → ((ts : List Token) → part (token_of k (P.part text place) ∷ ts) ≡ unfit n) → Answered (Err at)
+      read_unfit n a u = unfit_at n at a (g.goes ∙ ap part (read_here k d s) ∙ u _)
 
       -- The part goes on behind what is read.
-      module _ (n : w ≡ [] → ⊥) where
-        some_here : stands k K at to ≡ true
-        some_here = go (stands k K at to) refl
-          where
-            go : (b : Bool) → stands k K at to ≡ b → stands k K at to ≡ true
-            go true s = s
-            go false s = absurd (n (e ∙ from_none k K at to text place end s))
-
-        pub read_on :
-            (next place' end' : ℕ) → next ≡ at + 1 → Next text end place' end' → {further : List Token → D.Parsed}
-            → ((ts : List Token) → part (token_of k w ∷ ts) ≡ further ts) → Gone further next place' end'
-        read_on next place' end' a b {further} f =
-            let p = standing k K at to some_here in
-            let n : next ≡ suc at = omega arith in
-            record {
-              goes = g.goes ∙ ap part (read_here some_here) ∙ f _ ∙ ap (λ m. further (range text K m to)) (sym a);
-              begins = λ l q.
-                  b.0
-                  ∙ next_there v at (omega arith) (λ z. omega (arith, p.1)) (ends_here k d some_here)
-                  ∙ ap (offset_of text ps) (sym n)
-                  ∙ sym (stored_offset v next (omega arith) q);
-              ends = b.1;
-            }
+      pub read_on :
+          (next : ℕ) (place' : Span) → next ≡ at + 1 → Next text place place' → {further : List Token → D.Parsed}
+          → ((ts : List Token) → part (token_of k (P.part text place) ∷ ts) ≡ further ts) → Gone further next place'
+      read_on next place' a b {further} f =
+          let p = standing k K at to s in
+          let n : next ≡ suc at = omega arith in
+          record {
+            goes = g.goes ∙ ap part (read_here k d s) ∙ f _ ∙ ap (λ m. further (range text K m to)) (sym a);
+            begins = λ l q.
+                b.0
+                ∙ next_there v at (omega arith) (λ z. omega (arith, p.1)) (ends_here k d s)
+                ∙ ap (offset_of text ps) (sym n)
+                ∙ sym (stored_offset v next (omega arith) q);
+            ends = b.1;
+          }
 
   -- The end of a declaration: the operator and its `;`.
-  module _ (i : ℕ) (make : Bytes → Declaration) (at : ℕ) where
+  module _ (i : ℕ) (make : Bytes → Declaration) (at : ℕ) (place : Span) where
     operator_here :
         stands 1 K at to ≡ true → operator_part i make (range text K at to) ≡ closed (suc i) (make (written_of text K at)) (range text K (at + 1) to)
     unfolding operator_part symbol_of token_of
@@ -131,38 +125,38 @@ module _ {text : Bytes} {ps : List Placed} {K : List ℕ} (v : Stored text ps K)
     closed_here d j s = ap (closed (suc i) d) (here_at 6 j s)
 
     operator_cases :
-        {X : Type 0} → (operator_end K at to ≡ at → operator_part i make (range text K at to) ≡ unfit i → X)
-        → (operator_end K at to ≡ at + 1 → operator_part i make (range text K at to) ≡ unfit (suc i) → X)
-        → (operator_end K at to ≡ at + 2 → stands 1 K at to ≡ true
+        {X : Type 0} → (operator_at K at to place ≡ Err at → operator_part i make (range text K at to) ≡ unfit i → X)
+        → (operator_at K at to place ≡ Err (at + 1) → operator_part i make (range text K at to) ≡ unfit (suc i) → X)
+        → (operator_at K at to place ≡ Ok place → stands 1 K at to ≡ true
         → operator_part i make (range text K at to) ≡ parsed (make (written_of text K at)) (range text K (at + 1 + 1) to) → X)
         → X
     operator_cases {X} none bare whole = go (stands 1 K at to) (stands 6 K (at + 1) to) refl refl
       where
         go : (a b : Bool) → stands 1 K at to ≡ a → stands 6 K (at + 1) to ≡ b → X
-        go false b s z = none (end_operator K at to s) (refused_at (operator_refuses i make) at s)
+        go false b s z = none (closed_operator K at to place s) (refused_at (operator_refuses i make) at s)
         go true false s z =
-            bare (end_semicolon K at to s z) (operator_here s ∙ refused_at (closed-refuses (suc i) (make _)) (at + 1) z)
-        go true true s z = whole (end_behind K at to s z) s (operator_here s ∙ closed_here (make _) (at + 1) z)
+            bare (closed_semicolon K at to place s z) (operator_here s ∙ refused_at (closed-refuses (suc i) (make _)) (at + 1) z)
+        go true true s z = whole (closed_behind K at to place s z) s (operator_here s ∙ closed_here (make _) (at + 1) z)
 
-    module _ {place end : ℕ} (g : Gone (operator_part i make) at place end) (e : ℕ) (n : e ≡ operator_end K at to) where
-      pub operator_unfit : at ≡ from + i → e < at + 2 → Answered (Unfit e)
-      operator_unfit a l =
+    module _ (g : Gone (operator_part i make) at place) where
+      pub operator_unfit : at ≡ from + i → (e : ℕ) → Err e ≡ operator_at K at to place → Answered (Err e)
+      operator_unfit a e n =
           operator_cases
-          (λ z u. unfit_at i e (n ∙ z ∙ a) (g.goes ∙ u))
-          (λ z u. unfit_at (suc i) e (omega arith) (g.goes ∙ u))
-          (λ z s u. absurd (omega arith))
+          (λ z u. let h : e ≡ at = cc in unfit_at i e (h ∙ a) (g.goes ∙ u))
+          (λ z u. let h : e ≡ at + 1 = cc in unfit_at (suc i) e (omega arith) (g.goes ∙ u))
+          (λ z s u. impossible (cc))
 
       -- The code's answer has to agree with a declaration of some operator.
       pub operator_given :
-          at + 2 ≤ e → (r : Parsed)
-          → (place ≡ start K at → end ≡ start K at + size K at → (m : Bytes) (rest : List Token) → Parses K from (parsed (make m) rest) r)
-          → Answered r
-      operator_given l r says =
+          (o : Span) → Ok o ≡ operator_at K at to place → (r : Result C.Declaration ℕ)
+          → (IsPlace K at o → (m : Bytes) → IsOkAnd r (Denotes K from (make m))) → Answered r
+      operator_given o n r says =
           operator_cases
-          (λ z u. absurd (omega arith))
-          (λ z u. absurd (omega arith))
+          (λ z u. impossible (cc))
+          (λ z u. impossible (cc))
           (λ z s u.
+          let h : o ≡ place = cc in
           subst
           (λ p. Parses K from p r)
           (sym (g.goes ∙ u))
-          (says (begins_here g 1 (omega arith) s) (ends_here g 1 (omega arith) s) (written_of text K at) (range text K (at + 1 + 1) to)))
+          (says (rw h (begins_here g 1 (omega arith) s, ends_here g 1 (omega arith) s)) (written_of text K at)))

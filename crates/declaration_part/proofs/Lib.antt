@@ -1,6 +1,5 @@
 pub mod TokenPlaces
 pub mod Precedences
-pub mod Words
 pub mod Parts
 pub mod DeclarationParts
 pub mod DeclarationRow

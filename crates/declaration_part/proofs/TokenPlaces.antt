@@ -13,12 +13,13 @@ use Rattle.grammar.specs.Answer.{offset_of}
 use Rattle.grammar.proofs.Runs.{run-append}
 use Rattle.grammar.proofs.Scanned.{taken_not_blank}
 use Rattle.byte_strings.proofs.Suffixes.{run-within}
-use Rattle.rows.specs.Fields.{kind, start, size}
+use Rattle.rows.specs.Fields.{TokenRow, kind, start, size}
 use Rattle.rows.specs.Tokens.{token_in, Stored}
 use Rattle.rows.proofs.TokenBytes.{token_ends}
 use Rattle.rows.proofs.Stored.{stored_kind, stored_place, stored_size, stored_offset, stored_front, stored_next}
 use Rattle.scanner.specs.Places.{token_size, token_end, blanks_end}
 use Rattle.scanner.proofs.TokenSizes.{taken-size, token_within}
+use Rattle.declaration_part.specs.declared.walk.Span.{Span}
 use Rattle.declaration_part.specs.declared.walk.Places.{Places}
 use Rattle.declaration_part.specs.Walking.{Next, second_begin, Walked}
 use Rattle.declaration_part.specs.Parts.{IsPart}
@@ -27,7 +28,7 @@ use Rattle.declaration_part.specs.Parts.{IsPart}
 abbrev pub Enclosed : ℕ → Type 0
 Enclosed k = (3 ≤ k) × (k ≤ 5)
 
-module _ {text : Bytes} {ps : List Placed} {K : List ℕ} (v : Stored text ps K) where
+module _ {text : Bytes} {ps : List Placed} {K : TokenRow} (v : Stored text ps K) where
   module _ (j : ℕ) (h : j < length ps) where
     -- No blank stands where a token begins.
     pub begins_there : blanks_end text (offset_of text ps j) ≡ offset_of text ps j
@@ -72,18 +73,18 @@ module _ {text : Bytes} {ps : List Placed} {K : List ℕ} (v : Stored text ps K)
 
 -- What the reader passes lies in the text.
 module _ (text : Bytes) where
-  part_at : {start end : ℕ} → start ≤ length text → end ≡ token_end text start → IsPart text start end
-  part_at {start} h e = omega (arith, token_within text start h)
+  part_at : {place : Span} → place.start ≤ length text → place.end ≡ token_end text place.start → IsPart text place
+  part_at {place} h e = omega (arith, token_within text place.start h)
 
-  part_next : {before start end : ℕ} → before ≤ length text → Next text before start end → IsPart text start end
-  part_next {before} h n = part_at (omega (arith, n.0, run-within is_blank_byte text before h)) n.1
+  part_next : (before : Span) {place : Span} → before.end ≤ length text → Next text before place → IsPart text place
+  part_next before h n = part_at (omega (arith, n.0, run-within is_blank_byte text before.end h)) n.1
 
   module _ (before : ℕ) {p : Places} (w : Walked text before p) (h : second_begin text before ≤ length text) where
-    pub first_part : IsPart text p.first p.first_end
+    pub first_part : IsPart text p.first
     first_part = part_at (omega (arith, w.first.0)) w.first.1
 
-    pub second_part_lem : IsPart text p.second p.second_end
-    second_part_lem = part_next first_part.1 w.second
+    pub second_part_lem : IsPart text p.second
+    second_part_lem = part_next p.first first_part.1 w.second
 
-    pub third_part : IsPart text p.third p.third_end
-    third_part = part_next second_part_lem.1 w.third
+    pub third_part : IsPart text p.third
+    third_part = part_next p.second second_part_lem.1 w.third

@@ -1,3 +1,4 @@
 pub mod Walking
+pub mod Named
 pub mod Parsing
 pub mod Parts

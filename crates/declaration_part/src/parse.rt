@@ -1,199 +1,150 @@
 // One declaration at the front of a declaration part: what it declares, and where its operator stands.
-ghost use Rattle.std.specs.Prelude.{◌≡◌, ◌≤◌};
-ghost use Rattle.grammar.specs.Declaration.{declaration};
+ghost use Rattle.std.specs.Prelude.{◌≡◌, option_copied};
+ghost use Rattle.grammar.specs.Token.{atom, symbol};
+ghost use Rattle.grammar.specs.Declaration.{declaration, fixity_named, associativity_for};
+ghost use Rattle.rows.specs.Codes.{fixity_in, associativity_in};
 ghost use Rattle.rows.specs.Fields.{Holds};
 ghost use Rattle.rows.specs.Tokens.{range};
-ghost use Rattle.scanner.specs.Classes.{IsTable};
-ghost use Rattle.declaration_part.specs.Parsing.{precedence_code, fixity_number, associativity_number, Parses, Parsable};
-ghost use Rattle.declaration_part.specs.Parts.{IsPart, written_from, operator_end};
+ghost use Rattle.declaration_part.specs.Named.{found, precedence_read};
+ghost use Rattle.declaration_part.specs.Parsing.{Parses, Parsable};
+ghost use Rattle.declaration_part.specs.Parts.{IsPart, written_from, precedence_from, operator_at};
 
 use crate::walk;
-use rows::{kinds, role, tokens as row};
+use crate::walk::Span;
+use rows::fixity::{Associativity, Fixity};
+use rows::role;
+use rows::role::Role;
+use rows::token::{Kind, Token};
 
-// A role for an operator, or a `plain` declaration, with where the operator begins and ends; or the first token that does not fit.
-#[derive(Drop)]
-pub enum Parsed {
-    Unfit {
-        at: usize,
-    },
+// A role for an operator, or a `plain` declaration, with where the operator stands.
+#[derive(Clone, Copy)]
+pub enum Declaration {
     Role {
-        fixity: u8,
-        role: u16,
-        start: usize,
-        end: usize,
+        fixity: Fixity,
+        role: Role,
+        operator: Span,
     },
     Clears {
-        start: usize,
-        end: usize,
+        operator: Span,
     },
 }
 
-// The precedence that digits name, 0 if it is outside 1 to 1200.
-pub fn precedence(digits: &[u8]) -> u16
-    ensures { result ≡ precedence_code digits.now }
+// The precedence that digits name, from 1 to 1200.
+#[tactic(auto, using(crate::proofs::Precedences::read_some, crate::proofs::Precedences::read_zero, crate::proofs::Precedences::read_high))]
+pub fn precedence(digits: &[u8]) -> Option<u16>
+    ensures { result ≡ precedence_read digits.now }
 {
-    let mut v: u16 = 0;
-    let mut i: usize = 0;
-    while i < digits.len() {
-        let b = digits[i];
-        let d = if b < b'0' { 0 } else { b - b'0' };
-        v = v * 10 + (d as u16);
-        if role::MAX_PRECEDENCE < v {
-            v = role::MAX_PRECEDENCE + 1;
+    let mut value: u16 = 0;
+    for &b in digits {
+        value = value * 10 + b.saturating_sub(b'0') as u16;
+        if role::MAX_PRECEDENCE < value {
+            value = role::MAX_PRECEDENCE + 1;
         }
-        i += 1;
     }
-    if v <= role::MAX_PRECEDENCE {
-        return v;
+    match value {
+        1..=role::MAX_PRECEDENCE => Some(value),
+        _ => None,
     }
-    0
 }
 
-// No fixity and no associativity.
-const NONE: u8 = 0;
-
-const NO_SIDE: u16 = 0;
-
 // The fixity that a word names.
-pub fn fixity_named(word: &[u8]) -> u8
-    ensures { result ≡ fixity_number word.now }
+#[tactic(auto, using(byte_strings::proofs::Equality::same_reads, std::proofs::lemmas::Bool::Decides::nat_tests), unfolding(grammar::specs::Declaration::fixity_named, grammar::specs::Declaration::fixity_word))]
+pub fn fixity_named(word: &[u8]) -> Option<Fixity>
+    ensures { found fixity_in result ≡ fixity_named word.now }
 {
-    if byte_strings::equal(word, b"infix") {
-        return role::INFIX;
+    match word {
+        b"infix" => Some(Fixity::Infix),
+        b"prefix" => Some(Fixity::Prefix),
+        b"postfix" => Some(Fixity::Postfix),
+        _ => None,
     }
-    if byte_strings::equal(word, b"prefix") {
-        return role::PREFIX;
-    }
-    if byte_strings::equal(word, b"postfix") {
-        return role::POSTFIX;
-    }
-    NONE
 }
 
 // The associativity that a word names, if the fixity may have it.
-pub fn associativity_named(fixity: u8, word: &[u8]) -> u16
-    requires { (1 ≤ fixity) × (fixity ≤ 3) }
-    ensures { result ≡ associativity_number fixity word.now }
+#[tactic(auto, using(byte_strings::proofs::Equality::same_reads, std::proofs::lemmas::Bool::Decides::nat_tests), unfolding(grammar::specs::Declaration::associativity_for, grammar::specs::Declaration::associativity_named, grammar::specs::Declaration::associativity_word, grammar::specs::Declaration::symbol_of, grammar::specs::Operator::allowed))]
+pub fn associativity_named(fixity: Fixity, word: &[u8]) -> Option<Associativity>
+    ensures { found associativity_in result ≡ associativity_for (fixity_in fixity) (atom (symbol word.now)) }
 {
-    if byte_strings::equal(word, b"left") {
-        if fixity == role::PREFIX {
-            return NO_SIDE;
-        }
-        return role::LEFT;
+    match word {
+        b"left" if fixity != Fixity::Prefix => Some(Associativity::Left),
+        b"right" if fixity != Fixity::Postfix => Some(Associativity::Right),
+        b"non" => Some(Associativity::Non),
+        _ => None,
     }
-    if byte_strings::equal(word, b"right") {
-        if fixity == role::POSTFIX {
-            return NO_SIDE;
-        }
-        return role::RIGHT;
-    }
-    if byte_strings::equal(word, b"non") {
-        return role::NON;
-    }
-    NO_SIDE
 }
 
-// The operator at token `at` and the `;` behind it: the first of them that does not fit, or the token behind both.
-fn unfit_end(tokens: &[u16], at: usize, to: usize) -> usize
-    requires { Holds 4 tokens.now to }
-    ensures { result ≡ operator_end tokens.now at to }
+// The operator at token `at`, which stands at a place of the text, with a `;` behind it; or the first of them that does not stand there.
+#[tactic(auto, using(std::proofs::lemmas::Bool::Decides::nat_tests), unfolding(crate::specs::Parts::stands, crate::specs::Parts::operator_at))]
+fn operator_at(tokens: &[Token], at: usize, to: usize, place: Span) -> Result<Span, usize>
+    requires { Holds tokens.now to }
+    ensures { result ≡ operator_at tokens.now at to place }
 {
-    if to <= at {
-        return at;
+    if to <= at || tokens[at].kind != Kind::Symbol {
+        return Err(at);
     }
-    if row::kind(tokens, at) != kinds::SYMBOL {
-        return at;
+    let behind = at + 1;
+    if to <= behind || tokens[behind].kind != Kind::Semicolon {
+        return Err(behind);
     }
-    let j = at + 1;
-    if to <= j {
-        return j;
-    }
-    if row::kind(tokens, j) != kinds::SEMICOLON {
-        return j;
-    }
-    at + 2
+    Ok(place)
 }
 
-// The word at token `at`, from `start` to `end`; none where no word stands.
+// The word at token `at`, which stands at a place of the text.
+#[tactic(auto, using(std::proofs::lemmas::Bool::Decides::nat_tests), unfolding(crate::specs::Parts::stands, crate::specs::Parts::written_from))]
 fn word_of<'a>(
     text: &'a [u8],
-    tokens: &[u16],
+    tokens: &[Token],
     at: usize,
     to: usize,
-    start: usize,
-    end: usize,
-) -> &'a [u8]
-    requires { Holds 4 tokens.now to × IsPart text.now start end }
-    ensures { result.now ≡ written_from 1 text.now tokens.now at to start end }
+    place: Span,
+) -> Option<&'a [u8]>
+    requires { Holds tokens.now to × IsPart text.now place }
+    ensures { option_copied result ≡ written_from 1 text.now tokens.now at to place }
 {
-    if to <= at {
-        return &text[0..0];
+    if to <= at || tokens[at].kind != Kind::Symbol {
+        return None;
     }
-    if row::kind(tokens, at) != kinds::SYMBOL {
-        return &text[0..0];
-    }
-    &text[start..end]
+    Some(&text[place.start..place.end])
 }
 
-// The precedence at token `at`, from `start` to `end`; 0 where none stands.
-fn precedence_of(text: &[u8], tokens: &[u16], at: usize, to: usize, start: usize, end: usize) -> u16
-    requires { Holds 4 tokens.now to × IsPart text.now start end }
-    ensures { result ≡ precedence_code (written_from 2 text.now tokens.now at to start end) }
+// The precedence at token `at`, which stands at a place of the text.
+#[tactic(auto, using(std::proofs::lemmas::Bool::Decides::nat_tests), unfolding(crate::specs::Parts::stands, crate::specs::Parts::precedence_from))]
+fn precedence_of(text: &[u8], tokens: &[Token], at: usize, to: usize, place: Span) -> Option<u16>
+    requires { Holds tokens.now to × IsPart text.now place }
+    ensures { result ≡ precedence_from text.now tokens.now at to place }
 {
-    if to <= at {
-        return 0;
+    if to <= at || tokens[at].kind != Kind::Number {
+        return None;
     }
-    if row::kind(tokens, at) != kinds::NUMBER {
-        return 0;
-    }
-    precedence(&text[start..end])
+    precedence(&text[place.start..place.end])
 }
 
-// The declaration at token `from` of a part that ends before token `to`. The `let` or `;` before it is the first token from offset `before` on.
-pub fn declaration_at<'a>(
-    table: &'a [u8; 256],
-    text: &'a [u8],
-    tokens: &[u16],
+// The declaration at token `from` of a part that ends before token `to`, or the first token that does not fit. The `let` or `;` before it is
+// the first token from offset `before` on.
+pub fn declaration_at(
+    text: &[u8],
+    tokens: &[Token],
     from: usize,
     to: usize,
     before: usize,
-) -> Parsed
-    requires { IsTable table.now × Parsable text.now tokens.now from to before }
+) -> Result<Declaration, usize>
+    requires { Parsable text.now tokens.now from to before }
     ensures { Parses tokens.now from (declaration (range text.now tokens.now from to)) result }
 {
-    let p = walk::find_places(table, text, before);
-    let word = word_of(text, tokens, from, to, p.first, p.first_end);
-    if byte_strings::equal(word, b"plain") {
-        let e = unfit_end(tokens, from + 1, to);
-        if e < from + 3 {
-            return Parsed::Unfit { at: e };
-        }
-        return Parsed::Clears {
-            start: p.second,
-            end: p.second_end,
-        };
+    let places = walk::find_places(text, before);
+    let word = word_of(text, tokens, from, to, places.first).ok_or(from)?;
+    if word == b"plain".as_slice() {
+        let operator = operator_at(tokens, from + 1, to, places.second)?;
+        return Ok(Declaration::Clears { operator });
     }
-    let fixity = fixity_named(word);
-    if fixity == NONE {
-        return Parsed::Unfit { at: from };
-    }
-    let side = word_of(text, tokens, from + 1, to, p.second, p.second_end);
-    let associativity = associativity_named(fixity, side);
-    if associativity == NO_SIDE {
-        return Parsed::Unfit { at: from + 1 };
-    }
-    let level = precedence_of(text, tokens, from + 2, to, p.third, p.third_end);
-    if level == 0 {
-        return Parsed::Unfit { at: from + 2 };
-    }
-    let e = unfit_end(tokens, from + 3, to);
-    if e < from + 5 {
-        return Parsed::Unfit { at: e };
-    }
-    Parsed::Role {
+    let fixity = fixity_named(word).ok_or(from)?;
+    let side = word_of(text, tokens, from + 1, to, places.second).ok_or(from + 1)?;
+    let associativity = associativity_named(fixity, side).ok_or(from + 1)?;
+    let level = precedence_of(text, tokens, from + 2, to, places.third).ok_or(from + 2)?;
+    let operator = operator_at(tokens, from + 3, to, places.fourth)?;
+    Ok(Declaration::Role {
         fixity,
-        role: associativity + level,
-        start: p.fourth,
-        end: p.fourth_end,
-    }
+        role: Role::new(associativity, level),
+        operator,
+    })
 }

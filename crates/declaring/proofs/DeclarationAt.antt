@@ -15,8 +15,8 @@ use Rattle.grammar.specs.Token.{Token, Structure, atom, structure, symbol, semic
 use Rattle.grammar.specs.Outcome.{Outcome, refused, passed}
 use Rattle.grammar.specs.Scan.{Placed}
 use Rattle.grammar.specs.Answer.{offset_of}
-use Rattle.grammar.specs.Operator.{Fixity, Prefix, Infix, Postfix, Associativity, allowed, Role, Table, declare_role, remove_roles}
-use Rattle.grammar.specs.Coded.{kind_of, fixity_of, fixity_code}
+use Rattle.grammar.specs.Operator.{allowed, Role, Table, declare_role, remove_roles}
+use Rattle.grammar.specs.Coded.{kind_of}
 use Rattle.grammar.specs.Declaration.{
   Declaration,
   declares,
@@ -42,21 +42,24 @@ use Rattle.grammar.specs.Declaration as D
 use Rattle.grammar.proofs.Logic.{impossible, and_left, and_right}
 use Rattle.grammar.proofs.Declarations.{declaration_sound, enter_end, enter_reserved, enter_step}
 use Rattle.grammar.proofs.EnterBehind.{enter_fuel, enter_unfit}
-use Rattle.rows.specs.Fields.{kind, start, size}
-use Rattle.rows.specs.Codes.{side_code, role_code, role_of, IsRole}
+use Rattle.rows.specs.Fields.{TokenRow, kind, start, size}
+use Rattle.std.specs.Prelude.{Result, Ok, Err}
+use Rattle.rows.specs.declared.fixity.Fixity as F
+use Rattle.rows.specs.declared.role.Role as Coded
+use Rattle.rows.specs.Codes.{role_code, role_of, fixity_in}
 use Rattle.rows.specs.Tokens.{written_of, token_in, atom_of, atom_in, range, size_of, structure_size, Stored}
-use Rattle.rows.proofs.Codes.{role-code, code-role}
+use Rattle.rows.proofs.Codes.{role-code}
 use Rattle.rows.proofs.Ranges.{token_atom, length-range, range_none, range_split, range_token}
 use Rattle.rows.proofs.Stored.{stored_kind, stored_size}
 use Rattle.declaration_part.proofs.TokenPlaces.{second_next}
 use Rattle.declaration_part.specs.Walking.{second_begin}
-use Rattle.declaration_part.specs.Parsing.{Parses}
-use Rattle.declaration_part.specs.declared.parse.Parsed.{Parsed}
-use Rattle.declaration_part.specs.declared.parse.Parsed.TheVariants.{Unfit, Clears}
-use Rattle.declaration_part.specs.declared.parse.Parsed.TheVariants as P
+use Rattle.declaration_part.specs.declared.walk.Span.{Span}
+use Rattle.declaration_part.specs.declared.parse.Declaration as C
+use Rattle.declaration_part.specs.declared.parse.Declaration.TheVariants as P
+use Rattle.declaration_part.specs.Parsing.{IsPlace, Parses}
 
 -- A token of a text by what it is: its kind and its bytes, or how many bytes it has.
-module _ {text : Bytes} {ps : List Placed} {K : List ℕ} (v : Stored text ps K) (j : ℕ) (h : j < length ps) where
+module _ {text : Bytes} {ps : List Placed} {K : TokenRow} (v : Stored text ps K) (j : ℕ) (h : j < length ps) where
   pub symbol_kind : (m : Bytes) → token_in text K j ≡ atom (symbol m) → kind K j ≡ 1
   unfolding kind_of
   symbol_kind m e = stored_kind v j h ∙ ap kind_of e
@@ -72,12 +75,6 @@ module _ {text : Bytes} {ps : List Placed} {K : List ℕ} (v : Stored text ps K)
   pub structure_kind : (s : Structure) → token_in text K j ≡ structure s → (kind K j ≡ structure_number s) × (size K j ≡ structure_size s)
   unfolding kind_of size_of
   structure_kind s e = (stored_kind v j h ∙ ap kind_of e, stored_size v j h ∙ ap size_of e)
-
-fixity_back : (f : Fixity) → fixity_of (fixity_code f) ≡ f
-unfolding fixity_of fixity_code
-fixity_back Prefix = refl
-fixity_back Infix = refl
-fixity_back Postfix = refl
 
 -- The tokens of a declaration end with its operator and a `;`.
 module _ (d : Declaration) where
@@ -102,7 +99,7 @@ module _ (d : Declaration) where
           | clears m ↦ refl
         ]
 
-module _ (text : Bytes) (K : List ℕ) (to : ℕ) where
+module _ (text : Bytes) (K : TokenRow) (to : ℕ) where
   -- What the checks answer of the tokens from number `at` on, under the operators `T`.
   abbrev pub entered : Table → ℕ → Outcome Table
   entered T at = enter_part (to - at) T at (range text K at to)
@@ -213,78 +210,61 @@ module _ (text : Bytes) (K : List ℕ) (to : ℕ) where
           }
 
     -- What the code answers for it.
-    abbrev Said : Parsed → Type 0
+    abbrev Said : Result C.Declaration ℕ → Type 0
     Said = Parses K at (declaration (range text K at to))
 
-    pub unfit_at : (T : Table) (m : ℕ) → Said (Unfit m) → entered T at ≡ refused 8 m
+    pub unfit_at : (T : Table) (m : ℕ) → Said (Err m) → entered T at ≡ refused 8 m
     unfit_at T m = go (declaration (range text K at to)) refl
       where
-        go : (p : D.Parsed) → declaration (range text K at to) ≡ p → Parses K at p (Unfit m) → entered T at ≡ refused 8 m
+        go : (p : D.Parsed) → declaration (range text K at to) ≡ p → Parses K at p (Err m) → entered T at ≡ refused 8 m
         go (unfit k) e s = entered_unfit T at k l e ∙ ap (refused 8) (cc)
-        go (parsed (declares f a v w) rest) e s = impossible (cc)
-        go (parsed (clears w) rest) e s = impossible (cc)
+        go (parsed d rest) e s = absurd s
 
     -- A role that is declared ..
-    pub record RoleAt (f code begin end : ℕ) : Type 0 where
-      pub stands : begin ≡ start K (at + 3)
-      pub ends : end ≡ start K (at + 3) + size K (at + 3)
-      pub is_role : IsRole code × (0 < code)
+    pub record RoleAt (f : F.Fixity) (role : Coded.Role) (operator : Span) : Type 0 where
+      pub place : IsPlace K (at + 3) operator
+      pub is_role : 0 < role.code
       pub declared : Role
-      pub coded : role_of code ≡ some declared
-      pub step : DeclarationAt ps at (declare_role (written_of text K (at + 3)) (fixity_of f) declared) 3 5
+      pub coded : role_of role.code ≡ some declared
+      pub step : DeclarationAt ps at (declare_role (written_of text K (at + 3)) (fixity_in f) declared) 3 5
 
-    role_of_lem :
-        (f : Fixity) (a : Associativity) (w m : Bytes) (rest : List Token) → declaration (range text K at to) ≡ parsed (declares f a w m) rest
-        → RoleAt (fixity_code f) (side_code a + value w) (start K (at + 3)) (start K (at + 3) + size K (at + 3))
+    pub role_at : (f : F.Fixity) (role : Coded.Role) (operator : Span) → Said (Ok (P.Role f role operator)) → RoleAt f role operator
     unfolding declare operator_place declaration_tokens operator_of is_declaration is_precedence role_code
-    role_of_lem f a w m rest e =
-        let d : Declaration = declares f a w m in
-        let q : Role = record { precedence = value w; associativity = a } in
-        let p = and_right (allowed f a) _ (declaration_sound (range text K at to) d rest e).1 in
-        let low = leb-true 1 (value w) (and_left _ _ p) in
-        let high = leb-true (value w) widest_precedence (and_right (leb 1 (value w)) _ p) in
-        let name = sym (operator_name d rest e) in
-        record {
-          stands = refl;
-          ends = refl;
-          is_role = (code-role (some q) (low, high), omega arith);
-          declared = q;
-          coded = role-code (some q) (low, high);
-          step = subst (λ change. DeclarationAt ps at change 3 5) (λ i T. declare_role (name i) (sym (fixity_back f) i) q T)
-              (declaration_at_lem d rest e);
-        }
-
-    pub role_at : (f code begin end : ℕ) → Said (P.Role f code begin end) → RoleAt f code begin end
-    role_at f code begin end = go (declaration (range text K at to)) refl
+    role_at f role operator = go (declaration (range text K at to)) refl
       where
-        go : (p : D.Parsed) → declaration (range text K at to) ≡ p → Parses K at p (P.Role f code begin end) → RoleAt f code begin end
+        go : (p : D.Parsed) → declaration (range text K at to) ≡ p → Parses K at p (Ok (P.Role f role operator)) → RoleAt f role operator
         go (unfit k) e s = impossible (cc)
-        go (parsed (clears w) rest) e s = impossible (cc)
-        go (parsed (declares g a w m) rest) e s =
-            let x : fixity_code g ≡ f = cc in
-            let y : side_code a + value w ≡ code = cc in
-            let z : start K (at + 3) ≡ begin = cc in
-            let u : start K (at + 3) + size K (at + 3) ≡ end = cc in
-            let here : RoleAt f code (start K (at + 3)) (start K (at + 3) + size K (at + 3)) = rw (x, y) at (role_of_lem g a w m rest e) in
-            subst (RoleAt f code begin) u (subst (λ o. RoleAt f code o (start K (at + 3) + size K (at + 3))) z here)
+        go (parsed (clears w) rest) e s = absurd s
+        go (parsed (declares g a w m) rest) e (x, y, z) =
+            let d : Declaration = declares g a w m in
+            let q : Role = record { precedence = value w; associativity = a } in
+            let p = and_right (allowed g a) _ (declaration_sound (range text K at to) d rest e).1 in
+            let low = leb-true 1 (value w) (and_left _ _ p) in
+            let high = leb-true (value w) widest_precedence (and_right (leb 1 (value w)) _ p) in
+            let name = sym (operator_name d rest e) in
+            record {
+              place = z;
+              is_role = omega arith;
+              declared = q;
+              coded = ap role_of y ∙ role-code (some q) (low, high);
+              step = subst (λ change. DeclarationAt ps at change 3 5) (λ i T. declare_role (name i) (sym x i) q T) (declaration_at_lem d rest e);
+            }
 
     -- .. and a name that is cleared.
-    pub record ClearsAt (begin end : ℕ) : Type 0 where
-      pub stands : begin ≡ start K (at + 1)
-      pub ends : end ≡ start K (at + 1) + size K (at + 1)
+    pub record ClearsAt (operator : Span) : Type 0 where
+      pub place : IsPlace K (at + 1) operator
       pub step : DeclarationAt ps at (remove_roles (written_of text K (at + 1))) 1 3
 
-    pub clears_at : (begin end : ℕ) → Said (Clears begin end) → ClearsAt begin end
+    pub clears_at : (operator : Span) → Said (Ok (P.Clears operator)) → ClearsAt operator
     unfolding declare operator_place declaration_tokens operator_of
-    clears_at begin end = go (declaration (range text K at to)) refl
+    clears_at operator = go (declaration (range text K at to)) refl
       where
-        go : (p : D.Parsed) → declaration (range text K at to) ≡ p → Parses K at p (Clears begin end) → ClearsAt begin end
+        go : (p : D.Parsed) → declaration (range text K at to) ≡ p → Parses K at p (Ok (P.Clears operator)) → ClearsAt operator
         go (unfit k) e s = impossible (cc)
-        go (parsed (declares g a w m) rest) e s = impossible (cc)
+        go (parsed (declares g a w m) rest) e s = absurd s
         go (parsed (clears m) rest) e s =
             let name = sym (operator_name (clears m) rest e) in
             record {
-              stands = cc;
-              ends = cc;
+              place = s;
               step = subst (λ change. DeclarationAt ps at change 1 3) (λ i T. remove_roles (name i) T) (declaration_at_lem (clears m) rest e);
             }

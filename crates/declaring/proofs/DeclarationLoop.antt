@@ -6,7 +6,11 @@ use mathlib.Core.List.{List}
 use Prim.Native.Nat.{ℕ, suc, ◌+◌, ◌-◌, ◌≤◌, ◌<◌}
 use native.Mathlib.Omega.{arith}
 use native.Mathlib.Numerals.{add-one}
-use lib.ListN.{length, take, drop}
+use lib.ListN.{length}
+use Rattle.std.specs.Prelude.{Option, Some, None, Result, Ok, Err, IsErrAnd}
+use Rattle.grammar.proofs.Logic.{impossible}
+use Rattle.refusals.specs.declared.Refused.{Refused}
+use Rattle.refusals.specs.Numbers.{IsRefused, Refuses}
 use borrow.Author.Tests.{leb-true, leb-false}
 use Rattle.grammar.specs.Fault.{longest_text}
 use Rattle.grammar.specs.Bytes.{Bytes}
@@ -15,27 +19,27 @@ use Rattle.grammar.specs.Scan.{Placed}
 use Rattle.grammar.specs.Answer.{offset_of}
 use Rattle.grammar.specs.Operator.{declare_role, remove_roles, permitted}
 use Rattle.grammar.specs.Operator as G
-use Rattle.grammar.specs.Coded.{fixity_of}
 use Rattle.grammar.specs.Declaration.{declaration, is_reserved, most_operators, enter_part}
-use Rattle.rows.specs.Fields.{kind, start, size, Holds}
+use Rattle.rows.specs.Fields.{TokenRow, kind, start, size, Holds}
+use Rattle.rows.specs.declared.fixity.Fixity as F
+use Rattle.rows.specs.declared.role.Role.{Role}
+use Rattle.rows.specs.Codes.{fixity_in}
 use Rattle.rows.specs.Tokens.{written_of, range, Stored}
 use Rattle.rows.proofs.Ranges.{length-range}
 use Rattle.rows.proofs.Stored.{stored_within, stored_sized, stored_short, stored_written}
 use Rattle.operators.specs.Entries.{coded_find, hash_of, table_of, Sound, IsName, Declarable, Declared, Cleared}
-use Rattle.operators.specs.declared.table.Found.{Found}
-use Rattle.operators.specs.declared.table.Found.TheVariants.{At, Nothing}
 use Rattle.operators.specs.declared.table.Table.{Table}
 use Rattle.operators.proofs.Lookups.{table-count, unfound_role, unfound_count, declared-permitted, cleared_permitted}
 use Rattle.declaration_part.specs.Walking.{second_begin}
-use Rattle.declaration_part.specs.Parsing.{Parsable, Parses}
+use Rattle.declaration_part.specs.Parsing.{IsPlace, Parses}
+use Rattle.declaration_part.specs.Parts.{IsPart, part}
 use Rattle.declaration_part.proofs.TokenPlaces.{second_behind}
-use Rattle.declaration_part.specs.declared.parse.Parsed.TheVariants.{Unfit}
-use Rattle.declaring.specs.declared.Declared.TheVariants.{Passed, Refused}
-use Rattle.declaring.specs.Declaring.{is_new, is_full, PartAt, part_of, Declares}
+use Rattle.declaration_part.specs.declared.walk.Span.{Span}
+use Rattle.declaring.specs.Declaring.{is_full, RefusedIf, PartAt, part_of, Declares}
 use Rattle.declaring.proofs.DeclarationAt.{entered, entered_end, unfit_at, DeclarationAt, RoleAt, ClearsAt}
 
 -- The part under the operators of a table.
-module _ (text : Bytes) (K : List ℕ) (i c : ℕ) (t₀ : Table) where
+module _ (text : Bytes) (K : TokenRow) (i c : ℕ) (t₀ : Table) where
   abbrev outer : G.Table
   outer = table_of text t₀
 
@@ -47,7 +51,7 @@ module _ (text : Bytes) (K : List ℕ) (i c : ℕ) (t₀ : Table) where
     pub placed : List Placed
     pub stored : Stored text placed K
     pub short : length text ≤ longest_text
-    pub room : Holds 4 K (length placed)
+    pub room : Holds K (length placed)
     pub within : c < length placed
     pub low : i < at
     pub high : at ≤ c
@@ -80,63 +84,57 @@ module _ (text : Bytes) (K : List ℕ) (i c : ℕ) (t₀ : Table) where
       }
 
   -- What the code answers: a refusal, or the table behind the last declaration.
-  pub declares_refused : (n p : ℕ) → answer ≡ refused n p → Declares text t₀ answer t₀.words t₀.hints (Refused n p)
-  declares_refused n p h = rw h (refl, refl, refl)
+  pub declares_refused : (n p : ℕ) (r : Result Bool Refused) → answer ≡ refused n p → Refuses n p r → Declares text t₀ answer t₀ r
+  declares_refused n p r h e = rw h (e, refl)
 
   pub declares_passed :
-      {t : Table} {replaced : Bool} {before at : ℕ} → Entering t replaced before at → c ≤ at
-      → Declares text t₀ answer t.words t.hints (Passed t.count replaced)
-  declares_passed {t} {replaced} {at = at} inv l =
+      {t : Table} {replaced : Bool} {before at : ℕ} → Entering t replaced before at → c ≤ at → Declares text t₀ answer t (Ok replaced)
+  declares_passed {t} {at = at} inv l =
       let high = inv.high in
       let h = inv.answered ∙ entered_end text K c (table_of text t) at (omega arith) in
-      rw h (t.count, replaced, refl, record { sound = inv.sound; table = refl; kept = inv.keeps })
+      rw h (record { sound = inv.sound; table = refl; kept = inv.keeps })
 
--- A new name is one that is not found.
-new_found : (x : Found) → is_new x ≡ true → x ≡ Nothing
-unfolding is_new
-new_found (At k) z = absurd (true≢false (sym z))
-new_found Nothing z = refl
+-- What a test answered.
+pub passed_test : (b : Bool) (n p : ℕ) (u : Unit {0}) → RefusedIf b n p (Ok u) → b ≡ false
+passed_test true n p u h = absurd h
+passed_test false n p u h = refl
+
+pub refused_test : (b : Bool) (n p : ℕ) (x : Refused) → RefusedIf b n p (Err x) → (b ≡ true) × IsRefused n p x
+refused_test true n p x h = (refl, h)
+refused_test false n p x h = impossible (cc)
+
+-- A refusal that is handed on.
+pub handed : {A : Type 0} (n p : ℕ) (x : Refused) (r : Result A Refused) → IsErrAnd r (λ e. e ≡ x) → IsRefused n p x → Refuses n p r
+handed n p x (Ok a) h s = absurd h
+handed n p x (Err e) h s = rw h s
 
 -- The name at a token that is a word or sign.
 module _
-    {text : Bytes} {K : List ℕ} {i c : ℕ} {t₀ t : Table} {replaced : Bool} {before at : ℕ} (inv : Entering text K i c t₀ t replaced before at)
+    {text : Bytes} {K : TokenRow} {i c : ℕ} {t₀ t : Table} {replaced : Bool} {before at : ℕ} (inv : Entering text K i c t₀ t replaced before at)
   where
     module _
-        {j : ℕ} (l : j < length inv.placed) (k : kind K j ≡ 1) {o e : ℕ} (a : o ≡ start K j) (b : e ≡ start K j + size K j)
+        {j : ℕ} (l : j < length inv.placed) (k : kind K j ≡ 1) {o : Span} (a : IsPlace K j o)
       where
-        name_size_lem : e - o ≡ size K j
+        name_size_lem : o.end - o.start ≡ size K j
         name_size_lem = omega arith
 
-        name_written : take (e - o) (drop o text) ≡ written_of text K j
-        name_written = rw (name_size_lem, a)
+        name_written : part text o ≡ written_of text K j
+        name_written = rw (name_size_lem, a.0)
 
-        name_part : (o ≤ e) × (e ≤ length text)
+        name_part : IsPart text o
         name_part = omega (arith, stored_within inv.stored j l)
 
-        name_sized : (1 ≤ e - o) × (e - o ≤ 63)
+        name_sized : (1 ≤ o.end - o.start) × (o.end - o.start ≤ 63)
         name_sized =
             omega (arith, name_size_lem, stored_sized inv.stored j l (omega arith), stored_short inv.stored j l (λ e. omega arith))
 
-        is_name : IsName (take (e - o) (drop o text))
+        is_name : IsName (part text o)
         is_name = rw name_written (omega (arith, name_size_lem, stored_written inv.stored j l, name_sized.0))
 
     abbrev operators : G.Table
     operators = table_of text t
 
-    -- What reading a declaration asks.
-    pub parsable : at < c → Parsable text K at c before
-    parsable l =
-        record {
-          placed = inv.placed;
-          stored = inv.stored;
-          short = inv.short;
-          room = inv.room;
-          ordered = l;
-          within = inv.within;
-          begins = inv.begins;
-        }
-
-    pub unfit_stops : at < c → (m : ℕ) → Parses K at (declaration (range text K at c)) (Unfit m) → answer text K i c t₀ ≡ refused 8 m
+    pub unfit_stops : at < c → (m : ℕ) → Parses K at (declaration (range text K at c)) (Err m) → answer text K i c t₀ ≡ refused 8 m
     unfit_stops l m s = inv.answered ∙ unfit_at text K c inv.placed inv.stored inv.within at l operators m s
 
     -- A declaration of a reserved operator.
@@ -173,49 +171,47 @@ module _
 
     -- A role for the operator at token `at + 3`, for which there is room or not.
     module _
-        (l : at < c) {f code o e : ℕ} (role : RoleAt text K c inv.placed inv.stored inv.within at l f code o e)
+        (l : at < c) {f : F.Fixity} {r : Role} {o : Span} (role : RoleAt text K c inv.placed inv.stored inv.within at l f r o)
       where
         abbrev name : Bytes
-        name = take (e - o) (drop o text)
+        name = part text o
 
         there : at + 3 < length inv.placed
         there = omega (arith, role.step.within, inv.within)
 
         is_written : name ≡ written_of text K (at + 3)
-        is_written = name_written there role.step.is_symbol role.stands role.ends
+        is_written = name_written there role.step.is_symbol role.place
 
         pub role_name : IsName name
-        role_name = is_name there role.step.is_symbol role.stands role.ends
+        role_name = is_name there role.step.is_symbol role.place
 
-        pub role_part : (o ≤ e) × (e ≤ length text)
-        role_part = name_part there role.step.is_symbol role.stands role.ends
+        pub role_part : IsPart text o
+        role_part = name_part there role.step.is_symbol role.place
 
         pub role_reserved : is_reserved name ≡ true → answer text K i c t₀ ≡ refused 17 (at + 3)
         role_reserved r = reserved_stops role.step (rw is_written at r)
 
         -- What is found of its name.
-        module _ (found : Found) (looked : found ≡ coded_find text t.words name 0 t.count) where
+        module _ (found : Option ℕ) (looked : found ≡ coded_find text t.entries name 0 t.count) where
           pub overfull : is_reserved name ≡ false → is_full t.count found ≡ true → answer text K i c t₀ ≡ refused 9 (at + 3)
-          unfolding is_full
           overfull free = go found refl
             where
-              go : (x : Found) → found ≡ x → is_full t.count x ≡ true → answer text K i c t₀ ≡ refused 9 (at + 3)
-              go (At k) e z = absurd (true≢false (sym z))
-              go Nothing e z =
-                  let many = unfound_count text t name (sym looked ∙ e) (fixity_of f) role.declared in
+              go : (x : Option ℕ) → found ≡ x → is_full t.count x ≡ true → answer text K i c t₀ ≡ refused 9 (at + 3)
+              go (Some k) e z = absurd (true≢false (sym z))
+              go None e z =
+                  let many = unfound_count text t name (sym looked ∙ e) (fixity_in f) role.declared in
                   let full = leb-true most_operators t.count z in
                   inv.answered ∙ role.step.refuses operators (rw is_written at free) (rw (← is_written) (omega arith))
 
           pub declarable :
               {hash : ℕ} → (hash ≡ hash_of name) × (hash < 128) → is_full t.count found ≡ false
-              → Declarable text t found o (e - o) hash f code
-          unfolding is_full
+              → Declarable text t found o.start (o.end - o.start) hash f r
           declarable d z =
               record {
                 sound = inv.sound;
                 in_text = let p = role_part in omega arith;
                 short = inv.short;
-                named = name_sized there role.step.is_symbol role.stands role.ends;
+                named = name_sized there role.step.is_symbol role.place;
                 looked = looked;
                 hashed = d;
                 is_role = role.is_role;
@@ -224,41 +220,40 @@ module _
 
           -- The rule is kept still, if it was and the operator is new.
           pub declared-over :
-              is_reserved name ≡ false → (u : Table) → Declared text t o (e - o) f code u → (replaces : Bool)
-              → (replaces ≡ false → (replaced ≡ false) × (is_new found ≡ true)) → Entering text K i c t₀ u replaces e (at + 5)
+              is_reserved name ≡ false → (u : Table) → Declared text t o.start (o.end - o.start) f r u → (replaces : Bool)
+              → (replaces ≡ false → (replaced ≡ false) × (found ≡ None)) → Entering text K i c t₀ u replaces o.end (at + 5)
           declared-over free u d replaces m =
               let table = d.table role.declared role.coded in
               passed_over role.step (rw is_written at free) u d.sound
-              (table ∙ ap (λ w. declare_role w (fixity_of f) role.declared operators) is_written) replaces
+              (table ∙ ap (λ w. declare_role w (fixity_in f) role.declared operators) is_written) replaces
               (λ z h. rw table
-              (declared-permitted name (fixity_of f) role.declared operators (inv.keeps (m z).0 h)
-              (unfound_role text t name (sym looked ∙ new_found found (m z).1))))
-              role.ends
+              (declared-permitted name (fixity_in f) role.declared operators (inv.keeps (m z).0 h)
+              (unfound_role text t name (sym looked ∙ (m z).1))))
+              role.place.1
 
     -- The roles of the name at token `at + 1` are removed.
     module _
-        (l : at < c) {o e : ℕ} (clears : ClearsAt text K c inv.placed inv.stored inv.within at l o e)
+        (l : at < c) {o : Span} (clears : ClearsAt text K c inv.placed inv.stored inv.within at l o)
       where
         behind : at + 1 < length inv.placed
         behind = omega (arith, clears.step.within, inv.within)
 
-        cleared_written : take (e - o) (drop o text) ≡ written_of text K (at + 1)
-        cleared_written = name_written behind clears.step.is_symbol clears.stands clears.ends
+        cleared_written : part text o ≡ written_of text K (at + 1)
+        cleared_written = name_written behind clears.step.is_symbol clears.place
 
-        pub cleared_name : IsName (take (e - o) (drop o text))
-        cleared_name = is_name behind clears.step.is_symbol clears.stands clears.ends
+        pub cleared_name : IsName (part text o)
+        cleared_name = is_name behind clears.step.is_symbol clears.place
 
-        pub cleared_part : (o ≤ e) × (e ≤ length text)
-        cleared_part = name_part behind clears.step.is_symbol clears.stands clears.ends
+        pub cleared_part : IsPart text o
+        cleared_part = name_part behind clears.step.is_symbol clears.place
 
-        pub cleared_reserved : is_reserved (take (e - o) (drop o text)) ≡ true → answer text K i c t₀ ≡ refused 17 (at + 1)
+        pub cleared_reserved : is_reserved (part text o) ≡ true → answer text K i c t₀ ≡ refused 17 (at + 1)
         cleared_reserved r = reserved_stops clears.step (rw cleared_written at r)
 
         pub cleared_over :
-            is_reserved (take (e - o) (drop o text)) ≡ false → (u : Table) → Cleared text t (take (e - o) (drop o text)) u
-            → Entering text K i c t₀ u replaced e (at + 3)
+            is_reserved (part text o) ≡ false → (u : Table) → Cleared text t (part text o) u → Entering text K i c t₀ u replaced o.end (at + 3)
         cleared_over free u d =
             passed_over clears.step (rw cleared_written at free) u d.sound
             (d.table ∙ ap (λ w. remove_roles w operators) cleared_written) replaced
             (λ z h. rw d.table (cleared_permitted _ operators (inv.keeps z h)))
-            clears.ends
+            clears.place.1

@@ -1,8 +1,10 @@
 // The same as `cases`, run on the examples of docs/RULES.md and docs/REFUSALS.md.
+// A program has one recorded input, so each recorded run is a program, and their `main`s are alike.
 #![tactic(auto)]
 
+use service_lines::Format;
 use std::io;
 
 fn main(rt: HostRuntime) -> io::Result<()> {
-    service_lines::print_listings(&mut rt.stdin(), &mut rt.stdout())
+    service_lines::answer_lines(&mut rt.stdin(), &mut rt.stdout(), Format::Texts)
 }

@@ -1,41 +1,31 @@
 // A line of hexadecimal digits, taken character by character.
-ghost use Rattle.std.specs.Prelude.{◌≡◌, ◌≤◌, length};
+ghost use Rattle.std.specs.Prelude.{◌≡◌, ◌<◌, length, IfSome};
 ghost use Rattle.hex_lines.specs.Hexadecimal.{digit_value, fresh, after, text_after, is_text, Sound};
 
-// The value of a hexadecimal digit, and 16 for any other character.
-pub fn digit(b: u8) -> u8
+// The value of a hexadecimal digit, and none of any other character.
+#[tactic(auto, unfolding(crate::specs::Hexadecimal::digit_value))]
+pub fn digit(b: u8) -> Option<u8>
     ensures value { result ≡ digit_value b }
-    ensures upper_bound { result ≤ 16 }
+    ensures upper_bound { IfSome result (λ d. d < 16) }
 {
-    if b < b'0' {
-        return 16;
+    match b {
+        b'0'..=b'9' => Some(b - b'0'),
+        b'A'..=b'F' => Some(b - b'A' + 10),
+        b'a'..=b'f' => Some(b - b'a' + 10),
+        _ => None,
     }
-    if b <= b'9' {
-        return b - b'0';
-    }
-    if b < b'A' {
-        return 16;
-    }
-    if b <= b'F' {
-        return b - b'A' + 10;
-    }
-    if b < b'a' {
-        return 16;
-    }
-    if b <= b'f' {
-        return b - b'a' + 10;
-    }
-    16
 }
 
 // What is known of a line: whether it has a character, whether one of them was no digit, how many bytes of its text are kept, and
-// the value of a digit that waits for the second one of its byte (16: none waits).
-#[derive(Clone, Copy)]
+// the value of a digit that waits for the second one of its byte.
+// The two flags are no cases of an enum: behind a character that is no digit bytes are kept as before (`after`, `text_after`), so `kept`
+// and `high` have their meaning beside either value of `bad`, and a line that has begun may have nothing kept and no digit that waits.
+#[derive(Clone, Copy, Default)]
 pub struct Line {
     pub begun: bool,
     pub bad: bool,
     pub kept: usize,
-    pub high: u8,
+    pub high: Option<u8>,
 }
 
 impl Line {
@@ -43,64 +33,37 @@ impl Line {
     pub fn new() -> Line
         ensures { result ≡ fresh }
     {
-        Line {
-            begun: false,
-            bad: false,
-            kept: 0,
-            high: 16,
-        }
+        Line::default()
     }
 
     // The line with one more character, which is no line end. A whole byte is kept if there is room.
-    pub fn next(self, text: &mut [u8], b: u8) -> Line
+    #[tactic(auto, using(crate::proofs::Characters::full_stays), unfolding(crate::specs::Hexadecimal::after, crate::specs::Hexadecimal::text_after))]
+    pub fn next(mut self, text: &mut [u8], b: u8) -> Line
         requires { Sound self text.old }
         ensures value { result ≡ after (length text.old) self b }
         ensures text_after { text.new ≡ text_after text.old self b }
         ensures sound { Sound result text.new }
     {
-        let kept = self.kept;
-        let high = self.high;
-        let low = digit(b);
-        if low == 16 {
-            return Line {
-                begun: true,
-                bad: true,
-                kept,
-                high,
-            };
+        self.begun = true;
+        match (digit(b), self.high) {
+            (None, _) => self.bad = true,
+            (Some(low), None) => self.high = Some(low),
+            (Some(low), Some(high)) => {
+                if self.kept < text.len() {
+                    text[self.kept] = high * 16 + low;
+                    self.kept += 1;
+                }
+                self.high = None;
+            }
         }
-        if high == 16 {
-            return Line {
-                begun: true,
-                bad: self.bad,
-                kept,
-                high: low,
-            };
-        }
-        if kept < text.len() {
-            text[kept] = high * 16 + low;
-            return Line {
-                begun: true,
-                bad: self.bad,
-                kept: kept + 1,
-                high: 16,
-            };
-        }
-        Line {
-            begun: true,
-            bad: self.bad,
-            kept,
-            high: 16,
-        }
+        self
     }
 
     // Whether a whole line gives a text: digits alone, and two to each byte.
+    #[tactic(auto, unfolding(crate::specs::Hexadecimal::is_text))]
     pub fn is_text(self) -> bool
         ensures { result ≡ is_text self }
     {
-        if self.bad {
-            return false;
-        }
-        self.high == 16
+        !self.bad && self.high.is_none()
     }
 }

@@ -1,5 +1,5 @@
 -- The parts that are printed are the lines of the listing's definition.
-use mathlib.Core.Path.{◌≡◌, refl, ap, ap₂, ◌∙◌}
+use mathlib.Core.Path.{◌≡◌, refl, sym, ap, ◌∙◌}
 use mathlib.Core.Logic.{◌⊎◌, ⊎_elim}
 use mathlib.Core.List.{List, ◌++◌, append_assoc}
 use Prim.Native.Nat.{ℕ, ◌*◌, ◌^◌, ◌≤◌, ◌<◌}
@@ -7,7 +7,7 @@ use native.Mathlib.Omega.{arith}
 use lib.ListN.{take, replicate, length-replicate}
 use borrow.Author.Tests.{eq-eqb, ne_eqb}
 use Rattle.grammar.specs.Fault.{longest_text, most_tokens}
-use Rattle.grammar.specs.Bytes.{Bytes, bytes}
+use Rattle.grammar.specs.Bytes.{bytes}
 use Rattle.grammar.specs.Nodes.{words_per_node}
 use Rattle.grammar.specs.Answer as G
 use Rattle.grammar.specs.Listing.{
@@ -25,56 +25,54 @@ use Rattle.grammar.proofs.Answers.{read_proper, canonicalize_proper}
 use Rattle.reader.specs.declared.Answer.{Answer}
 use Rattle.reader.specs.Answered.{result_of, Reads, Canonicalizes}
 use Rattle.reader.proofs.Fits.{count_fits, canonical_count_fits}
-use Rattle.listing.specs.Lines.{refusal_text, answer_text}
-use Rattle.listing.proofs.Digits.{spelled-decimal}
+use Rattle.std.proofs.Common.{Ok, Err, codes}
+use Rattle.std.specs.Fmt as P
+use Rattle.listing.specs.declared.refusal.Refusal.{Refusal}
+use Rattle.listing.specs.Outcome.{outcome_of, refusal_output}
+use Rattle.listing.proofs.Digits.{printed_decimal}
+use Rattle.listing.proofs.Outcomes.{outcome-counted, outcome-refused}
 use Rattle.listing.proofs.Places.{read_offset, canonicalize_offset}
 
--- What is printed of an answer whose number, place and count have at most ten digits: `spelled` and `decimal` agree there.
+regroup : (a b c d z : List ℕ) → (a ++ (b ++ (c ++ d))) ++ z ≡ a ++ b ++ c ++ d ++ z
+regroup a b c d z = simp append_assoc refl
+
+-- What is printed of an answer whose number, place and count have at most ten digits.
 module _ (a : Answer) (B : List ℕ) where
-  counted : (word : Bytes) → a.number ≡ 0 → a.count < 10 ^ 10 → answer_text word a ≡ word ++ bytes " " ++ decimal a.count
-  unfolding answer_text
-  counted word e h = rw (eq-eqb a.number 0 e, answer_text) (ap (λ (d : Bytes). word ++ bytes " " ++ d) (spelled-decimal a.count h))
-
-  refused_text : (word : Bytes) → (a.number ≡ 0 → ⊥) → answer_text word a ≡ refusal_text a
-  unfolding answer_text
-  refused_text word e = rw (ne_eqb a.number 0 e, answer_text) refl
-
   refused_line
-      : (word : Bytes) → (a.number ≡ 0 → ⊥) → a.number < 10 ^ 10 → a.offset < 10 ^ 10
-      → answer_text word a ++ newline ≡ refusal_line (result_of a B).answer
-  unfolding refusal_text refusal_line result_of
-  refused_line word e h k =
-      ap (λ (x : Bytes). x ++ newline) (refused_text word e)
-      ∙ ap₂ (λ (n p : Bytes). (bytes "refused " ++ n ++ bytes " at " ++ p) ++ newline) (spelled-decimal a.number h) (spelled-decimal a.offset k)
-      ∙ simp append_assoc refl
+      : (r : Refusal) → outcome_of a ≡ Err r → a.number < 10 ^ 10 → a.offset < 10 ^ 10
+      → refusal_output r ++ newline ≡ refusal_line (result_of a B).answer
+  unfolding refusal_line result_of
+  refused_line r e h k =
+      rw ((outcome-refused a r e).1, printed_decimal a.number h, printed_decimal a.offset k)
+      (regroup (bytes "refused ") (decimal a.number) (bytes " at ") (decimal a.offset) newline)
 
   canonical_counted
-      : a.number ≡ 0 → a.count < 10 ^ 10
-      → answer_text (bytes "tidy") a ++ newline ++ take a.count B ++ newline ≡ canonical_lines (result_of a B)
+      : (n : ℕ) → outcome_of a ≡ Ok n → n < 10 ^ 10
+      → (codes "tidy " ++ (P.decimal n ++ codes "\n")) ++ (take n B ++ newline) ≡ canonical_lines (result_of a B)
   unfolding canonical_lines result_of
-  canonical_counted e h =
-      rw (eq-eqb a.number 0 e, canonical_lines)
-      (ap (λ (x : Bytes). x ++ newline ++ take a.count B ++ newline) (counted (bytes "tidy") e h) ∙ simp append_assoc refl)
+  canonical_counted n e h =
+      let o = outcome-counted a n e in
+      rw (eq-eqb a.number 0 o.0, canonical_lines, o.1, printed_decimal n h) (sym (append_assoc (bytes "tidy " ++ decimal n ++ newline) (take n B) newline))
 
   canonical_refused
-      : (a.number ≡ 0 → ⊥) → a.number < 10 ^ 10 → a.offset < 10 ^ 10
-      → answer_text (bytes "tidy") a ++ newline ≡ canonical_lines (result_of a B)
+      : (r : Refusal) → outcome_of a ≡ Err r → a.number < 10 ^ 10 → a.offset < 10 ^ 10
+      → refusal_output r ++ newline ≡ canonical_lines (result_of a B)
   unfolding canonical_lines result_of
-  canonical_refused e h k = rw (ne_eqb a.number 0 e, canonical_lines) (refused_line (bytes "tidy") e h k)
+  canonical_refused r e h k = rw (ne_eqb a.number 0 (outcome-refused a r e).0, canonical_lines) (refused_line r e h k)
 
   reading_counted
-      : (C : G.Result) → a.number ≡ 0 → a.count < 10 ^ 10
-      → answer_text (bytes "read") a ++ newline ++ node_lines a.count 0 B ++ canonical_lines C ≡ listing_of (result_of a B) C
+      : (C : G.Result) (n : ℕ) → outcome_of a ≡ Ok n → n < 10 ^ 10
+      → (codes "read " ++ (P.decimal n ++ codes "\n")) ++ node_lines n 0 B ++ canonical_lines C ≡ listing_of (result_of a B) C
   unfolding listing_of reading_lines result_of
-  reading_counted C e h =
-      rw (eq-eqb a.number 0 e, listing_of)
-      (ap (λ (x : Bytes). x ++ newline ++ node_lines a.count 0 B ++ canonical_lines C) (counted (bytes "read") e h) ∙ simp append_assoc refl)
+  reading_counted C n e h =
+      let o = outcome-counted a n e in
+      rw (eq-eqb a.number 0 o.0, listing_of, o.1, printed_decimal n h) refl
 
   reading_refused
-      : (C : G.Result) → (a.number ≡ 0 → ⊥) → a.number < 10 ^ 10 → a.offset < 10 ^ 10
-      → answer_text (bytes "read") a ++ newline ≡ listing_of (result_of a B) C
+      : (C : G.Result) (r : Refusal) → outcome_of a ≡ Err r → a.number < 10 ^ 10 → a.offset < 10 ^ 10
+      → refusal_output r ++ newline ≡ listing_of (result_of a B) C
   unfolding listing_of result_of
-  reading_refused C e h k = rw (ne_eqb a.number 0 e, listing_of) (refused_line (bytes "read") e h k)
+  reading_refused C r e h k = rw (ne_eqb a.number 0 (outcome-refused a r e).0, listing_of) (refused_line r e h k)
 
 -- Numbers of refusals are small.
 known_small : (n most : ℕ) → most ≤ 17 → (n ≤ most) ⊎ (n ≡ 17) → n < 10 ^ 10
@@ -82,44 +80,43 @@ known_small n most l h = ⊎_elim (λ k. omega arith) (λ k. omega arith) h
 
 module _ (text B' : List ℕ) (a : Answer) (e : Canonicalizes text (replicate longest_text 0) B' a) where
   pub canonical_printed
-      : a.number ≡ 0
-      → answer_text (bytes "tidy") a ++ newline ++ take a.count B' ++ newline
-      ≡ canonical_lines (G.canonicalize text (replicate longest_text 0))
+      : (n : ℕ) → outcome_of a ≡ Ok n
+      → (codes "tidy " ++ (P.decimal n ++ codes "\n")) ++ (take n B' ++ newline) ≡ canonical_lines (G.canonicalize text (replicate longest_text 0))
   unfolding result_of
-  canonical_printed z =
-      let small : a.count < 10 ^ 10 =
-      omega (arith, canonical_count_fits text (replicate longest_text 0) B' a e, length-replicate {A = ℕ} longest_text 0) in
-      canonical_counted a B' z small ∙ ap canonical_lines e
+  canonical_printed n o =
+      let small : n < 10 ^ 10 =
+      omega (arith, canonical_count_fits text (replicate longest_text 0) B' a e, length-replicate {A = ℕ} longest_text 0, (outcome-counted a n o).1) in
+      canonical_counted a B' n o small ∙ ap canonical_lines e
 
   pub canonical-refusal_printed
-      : (a.number ≡ 0 → ⊥)
-      → answer_text (bytes "tidy") a ++ newline ≡ canonical_lines (G.canonicalize text (replicate longest_text 0))
+      : (r : Refusal) → outcome_of a ≡ Err r → refusal_output r ++ newline ≡ canonical_lines (G.canonicalize text (replicate longest_text 0))
   unfolding result_of
-  canonical-refusal_printed z =
+  canonical-refusal_printed r o =
       let C : List ℕ = replicate longest_text 0 in
       let n : a.number ≡ (G.canonicalize text C).answer.number = ap (λ (r : G.Result). r.answer.number) e in
       let p : a.offset ≡ (G.canonicalize text C).answer.offset = ap (λ (r : G.Result). r.answer.offset) e in
       let h = known_small _ 13 (omega arith) (canonicalize_proper text C).known in
-      canonical_refused a B' z (omega (arith, n, h)) (omega (arith, p, canonicalize_offset text C)) ∙ ap canonical_lines e
+      canonical_refused a B' r o (omega (arith, n, h)) (omega (arith, p, canonicalize_offset text C)) ∙ ap canonical_lines e
 
 module _ (text N' : List ℕ) (a : Answer) (e : Reads text (replicate (words_per_node * most_tokens) 0) N' a) where
   pub reading_printed
-      : a.number ≡ 0
-      → answer_text (bytes "read") a ++ newline ++ node_lines a.count 0 N' ++ canonical_lines (G.canonicalize text (replicate longest_text 0))
+      : (n : ℕ) → outcome_of a ≡ Ok n
+      → (codes "read " ++ (P.decimal n ++ codes "\n")) ++ node_lines n 0 N' ++ canonical_lines (G.canonicalize text (replicate longest_text 0))
       ≡ printed text
   unfolding printed listing result_of
-  reading_printed z =
+  reading_printed n o =
       let N : List ℕ = replicate (words_per_node * most_tokens) 0 in
       let C = G.canonicalize text (replicate longest_text 0) in
-      let small : a.count < 10 ^ 10 = omega (arith, count_fits text N N' a e, length-replicate {A = ℕ} (words_per_node * most_tokens) 0) in
-      reading_counted a N' C z small ∙ ap (λ (r : G.Result). listing_of r C) e
+      let small : n < 10 ^ 10 =
+      omega (arith, count_fits text N N' a e, length-replicate {A = ℕ} (words_per_node * most_tokens) 0, (outcome-counted a n o).1) in
+      reading_counted a N' C n o small ∙ ap (λ (r : G.Result). listing_of r C) e
 
-  pub reading-refusal_printed : (a.number ≡ 0 → ⊥) → answer_text (bytes "read") a ++ newline ≡ printed text
+  pub reading-refusal_printed : (r : Refusal) → outcome_of a ≡ Err r → refusal_output r ++ newline ≡ printed text
   unfolding printed listing result_of
-  reading-refusal_printed z =
+  reading-refusal_printed r o =
       let N : List ℕ = replicate (words_per_node * most_tokens) 0 in
       let C = G.canonicalize text (replicate longest_text 0) in
       let n : a.number ≡ (G.read text N).answer.number = ap (λ (r : G.Result). r.answer.number) e in
       let p : a.offset ≡ (G.read text N).answer.offset = ap (λ (r : G.Result). r.answer.offset) e in
       let h = known_small _ 12 (omega arith) (read_proper text N).known in
-      reading_refused a N' C z (omega (arith, n, h)) (omega (arith, p, read_offset text N)) ∙ ap (λ (r : G.Result). listing_of r C) e
+      reading_refused a N' C r o (omega (arith, n, h)) (omega (arith, p, read_offset text N)) ∙ ap (λ (r : G.Result). listing_of r C) e

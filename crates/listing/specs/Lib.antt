@@ -1,1 +1,3 @@
 pub mod Lines
+pub mod Outcome
+pub mod Node

@@ -1,13 +1,10 @@
--- The text of an answer, and how long lines and node tables are.
+-- The text of an answer, and how many nodes a table has.
 use Rattle.std.specs.Prelude.{true, false, ◌++◌, ℕ, eqb}
 use Rattle.grammar.specs.Bytes.{Bytes, bytes}
 use Rattle.grammar.specs.Listing.{decimal_in}
 use Rattle.reader.specs.declared.Answer.{Answer}
 
--- The bytes of a line, and the nodes of a table: no text has more tokens, and no tree more nodes than tokens.
-abbrev pub line_size : ℕ
-line_size = 160
-
+-- The nodes of a table: no text has more tokens, and no tree more nodes than tokens.
 abbrev pub most_nodes : ℕ
 most_nodes = 1024
 

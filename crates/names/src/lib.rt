@@ -10,16 +10,14 @@ ghost use Rattle.names.specs.Widths.{width_of};
 fn width(first: u8) -> usize
     ensures { result ≡ width_of first }
 {
-    if first == b'\'' {
-        return 2;
-    }
-    1
+    if first == b'\'' { 2 } else { 1 }
 }
 
 // How many characters there are.
 pub fn count(written: &[u8]) -> usize
     ensures { result ≡ length (undoubled written.now) }
 {
+    // The place moves on by one byte or two, so this is no `for`.
     let mut count: usize = 0;
     let mut i: usize = 0;
     while i < written.len() {
@@ -34,6 +32,7 @@ pub fn write(written: &[u8], buffer: &mut [u8])
     requires { length (undoubled written.now) ≤ length buffer.old }
     ensures { buffer.new ≡ over (undoubled written.now) buffer.old }
 {
+    // As in `count`, the place moves on by one byte or two.
     let mut n: usize = 0;
     let mut i: usize = 0;
     while i < written.len() {

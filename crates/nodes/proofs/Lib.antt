@@ -1,4 +1,3 @@
-pub mod Nodes
 pub mod Over
 pub mod Parts
 pub mod Shapes

@@ -23,18 +23,18 @@ use Rattle.grammar.proofs.Logic.{impossible}
 use Rattle.grammar.proofs.Operands.{Operated, words-length}
 use Rattle.grammar.proofs.Present.{counted}
 use Rattle.grammar.proofs.WordsOffsets.{bracket_size, block_size, node-size}
-use Rattle.rows.specs.Fields.{kind, start, left, right}
-use Rattle.rows.specs.Codes.{role_code, Fit, IsRole}
+use Rattle.rows.specs.Fields.{TokenRow, NoteRow, RootRow, token, kind, start, left, right}
+use Rattle.rows.specs.Codes.{Fit}
 use Rattle.rows.specs.Agreeing.{Noted}
 use Rattle.rows.specs.InUse.{role_beside}
 use Rattle.rows.specs.Standing.{mark, Rooted, Tokened, Roled}
-use Rattle.rows.proofs.Codes.{role-code, code-role}
-use Rattle.rows.proofs.InUse.{beside_none, beside_code, mark-present}
+use Rattle.rows.proofs.Codes.{role-code}
+use Rattle.rows.proofs.InUse.{beside_code, mark-present}
 use Rattle.nodes.specs.Node.{precedence_of, atom_kind}
 use Rattle.nodes.specs.First.{opener_of, operand_part, first_part}
 use Rattle.rows.specs.Standing.{Rows, Stands}
 use Rattle.nodes.specs.declared.build.Part.{Part}
-use Rattle.nodes.specs.declared.build.Part.TheVariants.{Nothing, Of}
+use Rattle.std.specs.Prelude.{Option as PartOption, Some, None}
 use Rattle.nodes.proofs.Parts.{
   prefix-words,
   infix_words,
@@ -95,11 +95,6 @@ uncounted (leaf a) e = impossible cc
 uncounted (bracket t) e = impossible cc
 uncounted (block ds t) e = impossible cc
 uncounted (node l m r) e = impossible cc
-
--- 0 is the number of no role.
-no_role_coded : IsRole 0
-unfolding role_code
-no_role_coded = code-role none tt
 
 -- The kind of an atom's token, and of its node.
 atom_low : (a : Atom) → kind_of (atom a) ≤ 3
@@ -189,29 +184,29 @@ count-present t = go (present (span_tree t)) refl
     go true p = rw p (ne_eqb (count t) 0 (λ e. omega (arith, counted t p)))
     go false p = rw p (eq-eqb (count t) 0 (uncounted t p))
 
--- The role that an operator has by its operands: its number in the row of roles, and so its precedence.
-module _ {T : Table} {R : List ℕ} {i : ℕ} {m : Bytes} (n : Noted T R i (symbol m)) (fit : (f : Fixity) → Fit (role T m f)) where
+-- The precedence of the role that an operator has by its operands, as the row of notes has it.
+module _ {T : Table} {R : NoteRow} {i : ℕ} {m : Bytes} (n : Noted T R i (symbol m)) (fit : (f : Fixity) → Fit (role T m f)) where
   fit_of : (g : Option Fixity) → Fit (role_of_fixity T m g)
   unfolding role_of_fixity
   fit_of none = tt
   fit_of (some f) = fit f
 
   beside_operands : (l r : Tree) (x y : ℕ) → eqb x 0 ≡ not (present (span_tree l)) → eqb y 0 ≡ not (present (span_tree r))
-      → IsRole (role_beside R i x y) × (precedence_of (role_beside R i x y) ≡ precedence_over T l m r)
+      → precedence_of (role_beside R i x y) ≡ precedence_over T l m r
   unfolding role_over fixity
   beside_operands l r x y e f =
       let o = role_over T (span_tree l) m (span_tree r) in
       let fits = fit_of (fixity (span_tree l) (span_tree r)) in
-      rw (beside_code T R i m n x y (present (span_tree l)) (present (span_tree r)) e f) (code-role o fits, ap root_precedence (role-code o fits))
+      rw (beside_code T R i m n x y (present (span_tree l)) (present (span_tree r)) e f) (ap root_precedence (role-code o fits))
 
 module _ (places : ℕ → ℕ) (M : Rows) where
-  abbrev K : List ℕ
+  abbrev K : TokenRow
   K = M.tokens
 
-  abbrev R : List ℕ
+  abbrev R : NoteRow
   R = M.roles
 
-  abbrev O : List ℕ
+  abbrev O : RootRow
   O = M.roots
 
   -- Every operator that stands there has an operand, so there are six words to a node.
@@ -250,9 +245,9 @@ module _ (places : ℕ → ℕ) (M : Rows) where
     pub within : to' ≤ to
 
   -- The child `u`, whose tokens begin at `i`, stands in its part; where there is no part the child is missing.
-  abbrev pub StandsIn : Table → ℕ → ℕ → Tree → ℕ → Tree → Part → Type 0
-  StandsIn U from to t i u Nothing = u ≡ nothing
-  StandsIn U from to t i u (Of from' at' to') = (from' ≡ i) × Child U from to t from' at' to' u
+  abbrev pub StandsIn : Table → ℕ → ℕ → Tree → ℕ → Tree → PartOption Part → Type 0
+  StandsIn U from to t i u None = u ≡ nothing
+  StandsIn U from to t i u (Some p) = (p.from ≡ i) × Child U from to t p.from p.root p.to u
 
   -- The opener of a bracket pair or a block.
   pub record Opened (at to o : ℕ) : Type 0 where
@@ -262,7 +257,6 @@ module _ (places : ℕ → ℕ) (M : Rows) where
 
   pub record Shape (T : Table) (from at to : ℕ) (t : Tree) : Type 0 where
     pub opened : 3 < kind K at → Opened at to (opener_of K at)
-    pub coded : kind K at ≤ 3 → IsRole (last_role M at (count (first_of t)))
     pub first : StandsIn (first_table T t) from to t (first_from from t) (first_of t) (first_part K O from at)
     pub second : StandsIn T from to t (mark from t) (second_of t) (second_part K O at to)
     pub nodes : count t ≡ count (first_of t) + count (second_of t) + 1
@@ -276,7 +270,6 @@ module _ (places : ℕ → ℕ) (M : Rows) where
       let is_atom_lem : kind K from ≤ 3 = omega (arith, atom_low a, k.0) in
       record {
         opened = λ h. absurd (omega arith);
-        coded = λ h. rw (beside_none R from 0 (right O from) refl s.rooted.1) no_role_coded;
         first = rw (first_left K O from is_atom_lem from, operand_none (left O from) from from s.rooted.0);
         second = rw (second_absent K O from is_atom_lem to s.rooted.1);
         nodes = refl;
@@ -295,7 +288,6 @@ module _ (places : ℕ → ℕ) (M : Rows) where
       let opener = opener_bracket K from k.0 in
       record {
         opened = λ h. rw opener (record { starts = λ up. omega arith; within = omega arith; root = omega (arith, o.0) });
-        coded = λ h. absurd (omega arith);
         first = rw (first_span K O from is_structure_lem from, opener) (
           add-one from,
           record {
@@ -329,7 +321,6 @@ module _ (places : ℕ → ℕ) (M : Rows) where
           within = omega arith;
           root = omega (arith, o.0);
         });
-        coded = λ h. absurd (omega arith);
         first = rw (first_span K O from is_structure_lem from, opener) (
           add-one c,
           record {
@@ -366,7 +357,7 @@ module _ (places : ℕ → ℕ) (M : Rows) where
     is_atom_lem : kind K place ≤ 3
     is_atom_lem = omega (arith, s.tokened.0)
 
-    role_here : IsRole (last_role M place (count l)) × (precedence_of (last_role M place (count l)) ≡ precedence_over T l m r)
+    role_here : precedence_of (last_role M place (count l)) ≡ precedence_over T l m r
     role_here =
         beside_operands s.roled.0 s.roled.1 l r (count l) (right O place) (count-present l)
         (ap (λ x. eqb x 0) s.rooted.1 ∙ mark-present (suc place) r)
@@ -392,8 +383,8 @@ module _ (places : ℕ → ℕ) (M : Rows) where
         let f = formed_of l r false true (rw e absent) (marked (suc place) r h).there in
         rw (
           last_right M place is_atom_lem (λ q. omega (arith, s.rooted.1)) n (count l) (count l + count r),
-          prefix-words n (count l) (count l + count r) K place _ none,
-          role_here.1,
+          prefix-words n (count l) (count l + count r) (token K place) _ none,
+          role_here,
           f,
           s.tokened.1,
           s.tokened.2,
@@ -408,7 +399,7 @@ module _ (places : ℕ → ℕ) (M : Rows) where
         let f = formed_of l r true false (marked from l h).there (rw e absent) in
         rw (
           last_postfix M place is_atom_lem (s.rooted.1 ∙ q) n (count l) (count l + count r) (λ z. omega (arith, (marked from l h).some)),
-          role_here.1,
+          role_here,
           f,
           s.tokened.1,
           s.tokened.2,
@@ -422,8 +413,8 @@ module _ (places : ℕ → ℕ) (M : Rows) where
         let f = formed_of l r true true (marked from l h).there (marked (suc place) r g).there in
         rw (
           last_right M place is_atom_lem (λ q. omega (arith, s.rooted.1)) n (count l) (count l + count r),
-          infix_words n (count l) (count l + count r) K place _ (λ z. omega (arith, (marked from l h).some)),
-          role_here.1,
+          infix_words n (count l) (count l + count r) (token K place) _ (λ z. omega (arith, (marked from l h).some)),
+          role_here,
           f,
           s.tokened.1,
           s.tokened.2,
@@ -449,7 +440,6 @@ module _ (places : ℕ → ℕ) (M : Rows) where
         let o = s.rooted in
         record {
           opened = λ h. absurd (omega (arith, is_atom_lem));
-          coded = λ h. role_here.0;
           first = rw (first_left K O place is_atom_lem from)
               (operand_stands l from (left O place) from place k.4 s.roled.2 o.2 o.0 refl refl (omega arith) (omega arith) (omega arith));
           second = rw (second_right K O place is_atom_lem to)

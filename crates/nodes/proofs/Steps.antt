@@ -11,17 +11,16 @@ use Rattle.grammar.specs.Operator.{Table}
 use Rattle.grammar.specs.Tree.{Tree, nothing}
 use Rattle.grammar.specs.Nodes.{count, words, words_per_node}
 use Rattle.grammar.specs.Answer.{over}
-use Rattle.rows.specs.Fields.{kind, start, left, right, Within}
-use Rattle.rows.specs.Codes.{IsRole}
+use Rattle.rows.specs.Fields.{token, kind, start, left, right, Within}
 use Rattle.rows.specs.Standing.{mark}
 use Rattle.nodes.specs.Node.{atom_words, HasNode, Appended}
-use Rattle.nodes.specs.First.{opener_of, first_part, HasFirst}
+use Rattle.nodes.specs.First.{opener_of, part, first_part, HasFirst}
 use Rattle.nodes.specs.Building.{Buildable, Built}
 use Rattle.rows.specs.Standing.{Rows, Stands}
 use Rattle.nodes.specs.declared.build.Part.{Part}
-use Rattle.nodes.specs.declared.build.Part.TheVariants.{Nothing, Of}
+use Rattle.std.specs.Prelude.{Option, Some, None}
 use Rattle.nodes.proofs.Over.{over_none, over-length, over-node, lent_length, over-lent}
-use Rattle.nodes.proofs.Parts.{second_part, last_role, last_words, operand_none, first_left, second_absent, last_atom}
+use Rattle.nodes.proofs.Parts.{second_part, last_words, operand_none, first_left, second_absent, last_atom}
 use Rattle.nodes.proofs.Shapes.{
   first_of,
   second_of,
@@ -59,11 +58,11 @@ none_words places T i n e = rw e
 
 -- Six words to each node of the children.
 child_size :
-    (places : ℕ → ℕ) (M : Rows) (U : Table) (from to : ℕ) (t : Tree) (i : ℕ) (u : Tree) (p : Part) → StandsIn places M U from to t i u p
+    (places : ℕ → ℕ) (M : Rows) (U : Table) (from to : ℕ) (t : Tree) (i : ℕ) (u : Tree) (p : Option Part) → StandsIn places M U from to t i u p
     → (n : ℕ) → length (words places U u i n) ≡ count u * words_per_node
 unfolding words count
-child_size places M U from to t i u Nothing e n = rw e
-child_size places M U from to t i u (Of from' at' to') c n = rw c.0 at (stands-size places M c.1.stands n)
+child_size places M U from to t i u None e n = rw e
+child_size places M U from to t i u (Some p) c n = rw c.0 at (stands-size places M c.1.stands n)
 
 module _ {places : ℕ → ℕ} {M : Rows} {T : Table} {from at to : ℕ} {t : Tree} (s : Shape places M T from at to t) (n : ℕ) where
   first_size_lem : length (words places (first_table T t) (first_of t) (first_from from t) n) ≡ count (first_of t) * words_per_node
@@ -80,27 +79,27 @@ module _ {M : Rows} {N : List ℕ} {from at to base : ℕ} (h : Buildable M from
   abbrev its_shape : Shape h.places M h.table from at to h.tree
   its_shape = shape h.places M h.tree h.stands
 
-  pub root_token : Within 4 M.tokens at
+  pub root_token : Within M.tokens at
   root_token = let r = stands-root h.places M h.stands in omega (arith, r.2, h.tokens)
 
-  pub root-role : Within 4 M.roles at
+  pub root-role : Within M.roles at
   root-role = let r = stands-root h.places M h.stands in omega (arith, r.2, h.roles)
 
-  pub root-root : Within 2 M.roots at
+  pub root-root : Within M.roots at
   root-root = let r = stands-root h.places M h.stands in omega (arith, r.2, h.roots)
 
   pub node-room : HasNode N 0
   node-room = let r = stands-root h.places M h.stands in omega (arith, r.0, h.room)
 
   pub opener_asks : 3 < kind M.tokens at
-      → Within 4 M.tokens (opener_of M.tokens at) × Within 2 M.roots (opener_of M.tokens at) × (1 ≤ left M.roots (opener_of M.tokens at))
+      → Within M.tokens (opener_of M.tokens at) × Within M.roots (opener_of M.tokens at) × (1 ≤ left M.roots (opener_of M.tokens at))
   opener_asks s = let o = its_shape.opened s in (omega (arith, o.within, h.tokens), omega (arith, o.within, h.roots), o.root)
 
   pub opener_order : 3 < kind M.tokens at → start M.tokens at ≤ start M.tokens (opener_of M.tokens at)
   opener_order s = (its_shape.opened s).starts h.ascend
 
-  pub has_first : {k : ℕ} → k ≡ kind M.tokens at → HasFirst M.tokens M.roots k at
-  has_first e = record { tokens = root_token; roots = root-root; kinds = e; opens = λ s. opener_asks (omega arith) }
+  pub has_first : HasFirst M.tokens M.roots at
+  has_first = record { tokens = root_token; roots = root-root; opens = opener_asks }
 
   child_asks : {U : Table} {from' at' to' : ℕ} {u : Tree} {N' : List ℕ} {base' : ℕ} → Child h.places M U from to h.tree from' at' to' u
       → count u * words_per_node ≤ length N' → base' + count u ≤ 4096 → Buildable M from' at' to' N' base'
@@ -119,7 +118,7 @@ module _ {M : Rows} {N : List ℕ} {from at to base : ℕ} (h : Buildable M from
         few = few;
       }
 
-  pub first_asks : {from' at' to' : ℕ} → first_part M.tokens M.roots from at ≡ Of from' at' to'
+  pub first_asks : {from' at' to' : ℕ} → first_part M.tokens M.roots from at ≡ part from' at' to'
       → (to' - from' < to - from) × Buildable M from' at' to' N base
   first_asks p =
       let c = (rw p at its_shape.first).1 in
@@ -130,22 +129,15 @@ module _ {M : Rows} {N N₁ : List ℕ} {from at to base n : ℕ} (h : Buildable
   pub built_counts : 1 ≤ n
   built_counts = omega (arith, w.counted h.places h.table h.tree h.stands, (stands-root h.places M h.stands).0)
 
-  pub built_length : length N₁ ≡ length N
-  built_length =
-      let s = h.stands in
-      let l = stands-size h.places M s base in
-      ap length (w.written h.places h.table h.tree s)
-      ∙ over-length (words h.places h.table h.tree from base) N (omega (arith, h.room))
-
 -- The first part is there or not.
 module _ {M : Rows} {N : List ℕ} {from at to base : ℕ} where
-  pub first_missing : first_part M.tokens M.roots from at ≡ Nothing → FirstBuilt M from at to N base N 0
+  pub first_missing : first_part M.tokens M.roots from at ≡ None → FirstBuilt M from at to N base N 0
   first_missing p = record {
     counted = λ places T t s. sym (none_counted (rw p at (shape places M t s).first));
     written = λ places T t s. rw (none_words places (first_table T t) (first_from from t) base (rw p at (shape places M t s).first), over_none N);
   }
 
-  pub first_there : {N₁ : List ℕ} {l from' at' to' : ℕ} → first_part M.tokens M.roots from at ≡ Of from' at' to' → Built M from' at' to' N base N₁ l
+  pub first_there : {N₁ : List ℕ} {l from' at' to' : ℕ} → first_part M.tokens M.roots from at ≡ part from' at' to' → Built M from' at' to' N base N₁ l
       → FirstBuilt M from at to N base N₁ l
   first_there p w = record {
     counted = λ places T t s. w.counted places (first_table T t) (first_of t) (rw p at (shape places M t s).first).1.stands;
@@ -167,17 +159,13 @@ module _ {M : Rows} {N N₁ : List ℕ} {from at to base l : ℕ} (h : Buildable
   pub lent_starts : (l ≤ 4096) × (l * words_per_node ≤ length N₁)
   lent_starts = let s = first_room in (omega (arith, h.few), omega (arith, h.room))
 
-  pub first_counts : {from' at' to' : ℕ} → first_part M.tokens M.roots from at ≡ Of from' at' to' → 1 ≤ l
+  pub first_counts : {from' at' to' : ℕ} → first_part M.tokens M.roots from at ≡ part from' at' to' → 1 ≤ l
   first_counts p =
       let c = rw p at (its_shape h).first in
       omega (arith, b.counted h.places h.table h.tree h.stands, (stands-root h.places M c.1.stands).0)
 
-  -- Its role has a number.
-  pub last_coded : kind M.tokens at ≤ 3 → IsRole (last_role M at l)
-  last_coded k = rw (b.counted h.places h.table h.tree h.stands) ((its_shape h).coded k)
-
   -- There is no second part.
-  pub children_one : {m : ℕ} → second_part M.tokens M.roots at to ≡ Nothing → m ≡ l → ChildrenBuilt M from at to N base N₁ m
+  pub children_one : {m : ℕ} → second_part M.tokens M.roots at to ≡ None → m ≡ l → ChildrenBuilt M from at to N base N₁ m
   children_one p e = record {
     counted = λ places T t s. omega (arith, b.counted places T t s, none_counted (rw p at (shape places M t s).second));
     written = λ places T t s.
@@ -188,7 +176,7 @@ module _ {M : Rows} {N N₁ : List ℕ} {from at to base l : ℕ} (h : Buildable
   abbrev lent : List ℕ
   lent = mid_of (l * words_per_node) (length N₁ - l * words_per_node) N₁
 
-  module _ {from' at' to' : ℕ} (p : second_part M.tokens M.roots at to ≡ Of from' at' to') where
+  module _ {from' at' to' : ℕ} (p : second_part M.tokens M.roots at to ≡ part from' at' to') where
     pub second_asks : (to' - from' < to - from) × Buildable M from' at' to' lent (base + l)
     second_asks =
         let c = (rw p at (its_shape h).second).1 in
@@ -250,8 +238,8 @@ module _ {M : Rows} {N N₂ : List ℕ} {from at to base m : ℕ} (h : Buildable
 
 -- A tree of one atom.
 pub atom_done : {M : Rows} {N N' : List ℕ} {from at to base r : ℕ} → Buildable M from at to N base
-    → kind M.tokens at ≤ 3 → left M.roots at ≡ 0 → right M.roots at ≡ 0 → Appended (atom_words M.tokens at) N 0 N' r → Built M from at to N base N' r
+    → kind M.tokens at ≤ 3 → left M.roots at ≡ 0 → right M.roots at ≡ 0 → Appended (atom_words (token M.tokens at)) N 0 N' r → Built M from at to N base N' r
 atom_done {M} {from = from} {at} {to} {base} h is_atom_lem e f a =
     let b = first_missing (first_left M.tokens M.roots at is_atom_lem from ∙ operand_none (left M.roots at) from at e) in
     let g = children_one h b (second_absent M.tokens M.roots at is_atom_lem to f) refl in
-    done h g (atom_words M.tokens at) b a (sym (last_atom M at is_atom_lem f base 0 0 refl))
+    done h g (atom_words (token M.tokens at)) b a (sym (last_atom M at is_atom_lem f base 0 0 refl))

@@ -5,13 +5,18 @@ use Rattle.grammar.specs.Tree.{Tree}
 use Rattle.grammar.specs.Nodes.{count, words, words_per_node}
 use Rattle.grammar.specs.Answer.{over}
 use Rattle.rows.specs.Fields.{Holds}
-use Rattle.rows.specs.Standing.{Rows, Stands}
+use Rattle.rows.specs.Standing.{Rows, rows, Stands}
+use Rattle.nodes.specs.declared.build.Rows as Lent
+
+-- The three rows that are lent to the builder.
+abbrev pub rows_of : Lent.Rows → Rows
+rows_of r = rows r.tokens.now r.notes.now r.roots.now
 
 -- What is asked: such a tree, room for its nodes, node numbers and offsets that are words, and a `let` before its `in`.
 pub record Buildable (M : Rows) (from at to : ℕ) (N : List ℕ) (base : ℕ) : Type 0 where
-  pub tokens : Holds 4 M.tokens to
-  pub roles : Holds 4 M.roles to
-  pub roots : Holds 2 M.roots to
+  pub tokens : Holds M.tokens to
+  pub roles : Holds M.roles to
+  pub roots : Holds M.roots to
   pub places : ℕ → ℕ
   pub table : Table
   pub tree : Tree

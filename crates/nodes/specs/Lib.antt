@@ -1,3 +1,4 @@
+pub mod Kind
 pub mod Node
 pub mod First
 pub mod Building

@@ -2,4 +2,5 @@
 #![tactic(auto)]
 
 pub mod build;
+pub mod kind;
 pub mod node;

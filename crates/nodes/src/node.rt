@@ -2,146 +2,132 @@
 ghost use Rattle.std.specs.Prelude.{◌≡◌, ◌+◌, ◌-◌, ◌*◌, ◌≤◌};
 ghost use Rattle.std.proofs.lemmas.List.Edits.{sets};
 ghost use Rattle.grammar.specs.Nodes.{node_words, words_per_node, infix_kind, bracket_kind};
-ghost use Rattle.rows.specs.Fields.{Within, start};
-ghost use Rattle.rows.specs.Codes.{IsRole};
-ghost use Rattle.rows.specs.InUse.{role_beside};
-ghost use Rattle.nodes.specs.Node.{precedence_of, token_words, atom_words, block_words, prefix_or_infix_words, HasNode, IsWord};
+ghost use Rattle.rows.specs.InUse.{role_between};
+ghost use Rattle.nodes.specs.Node.{precedence_of, token_words, atom_words, block_words, prefix_or_infix_words, HasNode};
 ghost use Rattle.nodes.specs.Node.{EndsInChild, Appended};
 
-use rows::{in_use, kinds, role, tokens as row};
+use crate::kind::NodeKind;
+use rows::role::Role;
+use rows::roles::Roles;
+use rows::token::{Kind, Token};
 
 pub const WORDS: usize = 6;
 
-// Kinds of nodes.
-pub const NAME: u32 = 1;
+// The bytes of the keyword `in`.
+const IN_SIZE: u32 = 2;
 
-pub const NUMBER: u32 = 2;
-
-pub const PREFIX: u32 = 3;
-
-pub const INFIX: u32 = 4;
-
-pub const POSTFIX: u32 = 5;
-
-pub const BRACKET: u32 = 6;
-
-pub const BLOCK: u32 = 7;
-
-// The node with number `at` of `nodes`.
-pub fn put(
-    nodes: &mut [u32],
-    at: usize,
-    kind: u32,
-    first: usize,
-    second: usize,
-    offset: usize,
-    size: usize,
-    precedence: u16,
-)
-    requires { HasNode nodes.old at × IsWord first × IsWord second × IsWord offset × IsWord size }
-    ensures { nodes.new ≡ sets nodes.old (at * words_per_node) (node_words kind first second offset size precedence) }
-{
-    let w = at * WORDS;
-    nodes[w] = kind;
-    nodes[w + 1] = first as u32;
-    nodes[w + 2] = second as u32;
-    nodes[w + 3] = offset as u32;
-    nodes[w + 4] = size as u32;
-    nodes[w + 5] = precedence as u32;
+// A node. Its kind is a number, as in the table, which C reads.
+#[derive(Clone, Copy)]
+pub struct Node {
+    pub kind: u32,
+    pub first: u32,
+    pub second: u32,
+    pub offset: u32,
+    pub size: u32,
+    pub precedence: u16,
 }
 
-// The same with the bytes of token `i`, as written.
-fn put_token(
-    nodes: &mut [u32],
-    at: usize,
-    kind: u32,
-    first: usize,
-    second: usize,
-    tokens: &[u16],
-    i: usize,
-    precedence: u16,
-)
-    requires { HasNode nodes.old at × IsWord first × IsWord second × Within 4 tokens.now i }
-    ensures { nodes.new ≡ sets nodes.old (at * words_per_node) (token_words kind first second tokens.now i precedence) }
+impl Node {
+    // A node with the bytes of a token, as written.
+    fn of_token(kind: u32, first: u32, second: u32, token: Token, precedence: u16) -> Node
+        ensures { node_words result.kind result.first result.second result.offset result.size result.precedence
+            ≡ token_words kind first second token precedence }
+    {
+        Node {
+            kind,
+            first,
+            second,
+            offset: u32::from(token.start),
+            size: u32::from(token.size),
+            precedence,
+        }
+    }
+
+    // The node with number `at` of `nodes`.
+    #[tactic(auto, unfolding(grammar::specs::Nodes::node_words))]
+    pub fn write(self, nodes: &mut [u32], at: usize)
+        requires { HasNode nodes.old at }
+        ensures { nodes.new ≡ sets nodes.old (at * words_per_node)
+            (node_words self.kind self.first self.second self.offset self.size self.precedence) }
+    {
+        let w = at * WORDS;
+        nodes[w] = self.kind;
+        nodes[w + 1] = self.first;
+        nodes[w + 2] = self.second;
+        nodes[w + 3] = self.offset;
+        nodes[w + 4] = self.size;
+        nodes[w + 5] = u32::from(self.precedence);
+    }
+}
+
+// The number of the last of `n` nodes, as a child.
+fn last(n: usize) -> u32
+    requires { EndsInChild n }
+    ensures { result ≡ n - 1 }
 {
-    let start = row::start(tokens, i);
-    let size = row::size(tokens, i);
-    put(nodes, at, kind, first, second, start, size, precedence);
+    (n - 1) as u32
 }
 
 // The node of an atom.
-pub fn leaf(tokens: &[u16], i: usize, nodes: &mut [u32]) -> usize
-    requires { Within 4 tokens.now i × HasNode nodes.old 0 }
-    ensures { Appended (atom_words tokens.now i) nodes.old 0 nodes.new result }
+#[tactic(auto, unfolding(crate::specs::Node::atom_kind))]
+pub fn leaf(token: Token, nodes: &mut [u32]) -> usize
+    requires { HasNode nodes.old 0 }
+    ensures { Appended (atom_words token) nodes.old 0 nodes.new result }
 {
-    if row::kind(tokens, i) == kinds::NUMBER {
-        put_token(nodes, 0, NUMBER, 0, 0, tokens, i, 0);
+    if token.kind == Kind::Number {
+        Node::of_token(NodeKind::Number as u32, 0, 0, token, 0).write(nodes, 0);
         return 1;
     }
-    put_token(nodes, 0, NAME, 0, 0, tokens, i, 0);
+    Node::of_token(NodeKind::Name as u32, 0, 0, token, 0).write(nodes, 0);
     1
 }
 
 // The node of an infix operator in the role, behind the `l` nodes of its left operand and the `r` nodes of its right one; `base` nodes
 // stand before.
-pub fn infix(
-    tokens: &[u16],
-    i: usize,
-    role: u16,
-    base: usize,
-    l: usize,
-    r: usize,
-    nodes: &mut [u32],
-) -> usize
-    requires { Within 4 tokens.now i × IsRole role × EndsInChild (base + l) × EndsInChild (base + (l + r)) × HasNode nodes.old (l + r) }
-    ensures { Appended (token_words infix_kind (base + l - 1) (base + (l + r) - 1) tokens.now i (precedence_of role))
+pub fn infix(token: Token, role: Role, base: usize, l: usize, r: usize, nodes: &mut [u32]) -> usize
+    requires { EndsInChild (base + l) × EndsInChild (base + (l + r)) × HasNode nodes.old (l + r) }
+    ensures { Appended (token_words infix_kind (base + l - 1) (base + (l + r) - 1) token (precedence_of role.code))
         nodes.old (l + r) nodes.new result }
 {
     let n = l + r;
-    let p = role::precedence(role);
-    put_token(nodes, n, INFIX, base + l - 1, base + n - 1, tokens, i, p);
+    let left = last(base + l);
+    let right = last(base + n);
+    let precedence = role.precedence();
+    Node::of_token(NodeKind::Infix as u32, left, right, token, precedence).write(nodes, n);
     n + 1
 }
 
 // The node of a prefix or postfix operator (`kind`) in the role, behind the `n` nodes of its operand.
-pub fn unary(
-    tokens: &[u16],
-    i: usize,
-    kind: u32,
-    role: u16,
-    base: usize,
-    n: usize,
-    nodes: &mut [u32],
-) -> usize
-    requires { Within 4 tokens.now i × IsRole role × EndsInChild (base + n) × HasNode nodes.old n }
-    ensures { Appended (token_words kind (base + n - 1) 0 tokens.now i (precedence_of role))
+pub fn unary(token: Token, kind: u32, role: Role, base: usize, n: usize, nodes: &mut [u32]) -> usize
+    requires { EndsInChild (base + n) × HasNode nodes.old n }
+    ensures { Appended (token_words kind (base + n - 1) 0 token (precedence_of role.code))
         nodes.old n nodes.new result }
 {
-    let p = role::precedence(role);
-    put_token(nodes, n, kind, base + n - 1, 0, tokens, i, p);
+    let operand = last(base + n);
+    let precedence = role.precedence();
+    Node::of_token(kind, operand, 0, token, precedence).write(nodes, n);
     n + 1
 }
 
-// The node of an operator behind the `l` nodes of its left operand, 0 if it has none, and the `r` nodes of its right one.
+// The node of an operator with these roles, behind the `l` nodes of its left operand, 0 if it has none, and the `r` nodes of its right one.
+#[tactic(auto, unfolding(crate::specs::Node::prefix_or_infix_words))]
 pub fn prefix_or_infix(
-    tokens: &[u16],
-    roles: &[u16],
-    i: usize,
+    token: Token,
+    roles: Roles,
     base: usize,
     l: usize,
     r: usize,
     nodes: &mut [u32],
 ) -> usize
-    requires { Within 4 tokens.now i × Within 4 roles.now i × IsRole (role_beside roles.now i l r)
-        × (1 ≤ r) × (base + (l + r) ≤ 4096) × HasNode nodes.old (l + r) }
-    ensures { Appended (prefix_or_infix_words base l (l + r) tokens.now i (precedence_of (role_beside roles.now i l r)))
+    requires { (1 ≤ r) × (base + (l + r) ≤ 4096) × HasNode nodes.old (l + r) }
+    ensures { Appended (prefix_or_infix_words base l (l + r) token (precedence_of (role_between roles l r)))
         nodes.old (l + r) nodes.new result }
 {
-    let role = in_use::role_beside(roles, i, l, r);
+    let role = roles.between(l, r);
     if l == 0 {
-        return unary(tokens, i, PREFIX, role, base, r, nodes);
+        return unary(token, NodeKind::Prefix as u32, role, base, r, nodes);
     }
-    infix(tokens, i, role, base, l, r, nodes)
+    infix(token, role, base, l, r, nodes)
 }
 
 // The node of a bracket pair behind the `n` nodes of its inside.
@@ -149,18 +135,34 @@ pub fn bracket(base: usize, n: usize, nodes: &mut [u32]) -> usize
     requires { EndsInChild (base + n) × HasNode nodes.old n }
     ensures { Appended (node_words bracket_kind (base + n - 1) 0 0 0 0) nodes.old n nodes.new result }
 {
-    put(nodes, n, BRACKET, base + n - 1, 0, 0, 0, 0);
+    let pair = Node {
+        kind: NodeKind::Bracket as u32,
+        first: last(base + n),
+        second: 0,
+        offset: 0,
+        size: 0,
+        precedence: 0,
+    };
+    pair.write(nodes, n);
     n + 1
 }
 
-// The node of the block with `let` at token `i` and `in` at token `c`, behind the `n` nodes of its body.
-pub fn block(tokens: &[u16], i: usize, c: usize, base: usize, n: usize, nodes: &mut [u32]) -> usize
-    requires { Within 4 tokens.now i × Within 4 tokens.now c × (start tokens.now i ≤ start tokens.now c)
-        × EndsInChild (base + n) × HasNode nodes.old n }
-    ensures { Appended (block_words (base + n - 1) tokens.now i c) nodes.old n nodes.new result }
+// The node of the block with these tokens `let` and `in`, behind the `n` nodes of its body.
+pub fn block(let_token: Token, in_token: Token, base: usize, n: usize, nodes: &mut [u32]) -> usize
+    requires { (let_token.start ≤ in_token.start) × EndsInChild (base + n) × HasNode nodes.old n }
+    ensures { Appended (block_words (base + n - 1) let_token in_token) nodes.old n nodes.new result }
 {
-    let start = row::start(tokens, i);
-    let end = row::start(tokens, c) + 2;
-    put(nodes, n, BLOCK, base + n - 1, 0, start, end - start, 0);
+    let body = last(base + n);
+    let start = u32::from(let_token.start);
+    let end = u32::from(in_token.start) + IN_SIZE;
+    let block = Node {
+        kind: NodeKind::Block as u32,
+        first: body,
+        second: 0,
+        offset: start,
+        size: end - start,
+        precedence: 0,
+    };
+    block.write(nodes, n);
     n + 1
 }

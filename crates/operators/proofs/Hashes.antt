@@ -4,6 +4,8 @@ use mathlib.Core.Bool.{Bool, true, false}
 use mathlib.Core.List.{List}
 use Prim.Native.Nat.{ℕ, ◌+◌, ◌-◌, ◌*◌, ◌≤◌, ◌<◌}
 use native.Mathlib.Omega.{arith}
+use Rattle.std.specs.Prelude.{bit_and, ◌%◌}
+use Rattle.std.proofs.lemmas.Nat.{and_mask}
 use lib.Dec.{eqb}
 use lib.ListN.{length, get_or, set}
 use lib.Seq.{get_or-set_same, get_or-set_other}
@@ -42,6 +44,22 @@ hash_below s h =
     let c : ℕ = less_by 512 b in
     let d : ℕ = less_by 256 c in
     less_below 128 d (less_below 256 c (less_below 512 b (less_below 1024 a (less_below 2048 (last_two s) h))))
+
+-- So it is what seven bits of the number hold.
+less_split : (n h : ℕ) → (t : ℕ) × (h ≡ t * n + less_by n h)
+less_split n h = below h n (λ k. (0, omega (arith, less_kept n h k))) (λ k. (1, omega (arith, less_off n h k)))
+
+pub hash_masked : (s : Bytes) → last_two s < 4096 → (bit_and (last_two s) 127 ≡ hash_of s) × (bit_and (last_two s) 127 < 128)
+unfolding hash_of
+hash_masked s h =
+    let m : bit_and (last_two s) 127 ≡ last_two s % 128 = and_mask (last_two s) 7 in
+    let b : hash_of s < 128 = hash_below s h in
+    let (t, e) = less_split 2048 (last_two s) in
+    let (u, f) = less_split 1024 (less_by 2048 (last_two s)) in
+    let (v, g) = less_split 512 (less_by 1024 (less_by 2048 (last_two s))) in
+    let (w, k) = less_split 256 (less_by 512 (less_by 1024 (less_by 2048 (last_two s)))) in
+    let (x, l) = less_split 128 (less_by 256 (less_by 512 (less_by 1024 (less_by 2048 (last_two s))))) in
+    (omega arith, omega arith)
 
 -- A hint that is stored is there, and the others are there still.
 pub hint_kept : (H : List ℕ) (k v h : ℕ) → k < length H → 0 < get_or H h 0 → 0 < get_or (set H k (v + 1)) h 0

@@ -1,7 +1,7 @@
 pub mod Roles
 pub mod Hashes
 pub mod Numbered
-pub mod EntryWords
+pub mod Changed
 pub mod TableEntries
 pub mod Searches
 pub mod SoundEntries

@@ -7,6 +7,7 @@ use mathlib.Core.List.{List, [], ◌∷◌}
 use mathlib.Core.Option.{none}
 use Prim.Native.Nat.{ℕ, zero, suc, ◌+◌, ◌<◌}
 use native.Mathlib.Omega.{arith}
+use Rattle.std.specs.Prelude.{Option, Some, None}
 use lib.ListN.{length}
 use Rattle.grammar.specs.Bytes.{Bytes, same}
 use Rattle.grammar.specs.Operator.{
@@ -32,139 +33,143 @@ use Rattle.grammar.specs.Operator.{
 use Rattle.grammar.specs.Operator as G
 use Rattle.grammar.proofs.Logic.{impossible, or_cases, same_eq}
 use Rattle.grammar.proofs.Operators.{both}
-use Rattle.rows.specs.Codes.{role_code, roles_of, Fit, IsRole, Bounded}
-use Rattle.operators.specs.Entries.{word, name_at, coded_find, operators_from, table_of, Sound}
-use Rattle.operators.specs.declared.table.Found.{Found}
-use Rattle.operators.specs.declared.table.Found.TheVariants.{At, Nothing}
+use Rattle.rows.specs.declared.roles.Roles as Coded
+use Rattle.rows.specs.Codes.{role_code, roles_of, Fit, Bounded}
+use Rattle.rows.specs.InUse.{roles_by}
+use Rattle.rows.proofs.Codes.{role_valid}
+use Rattle.operators.specs.Entries.{entry, name_at, coded_find, operators_from, table_of}
+use Rattle.operators.specs.declared.table.Entry.{Entry}
 use Rattle.operators.specs.declared.table.Table.{Table}
 use Rattle.operators.proofs.Roles.{beside_nothing}
 use Rattle.operators.proofs.Numbered.{removed_nothing}
-use Rattle.operators.proofs.Searches.{entry, found_within, table_entries, Finds, placed}
+use Rattle.operators.proofs.Searches.{operator_at, found_within, table_entries, Finds, placed}
 
 -- The roles at the entry that is found, or none; and how many operators a declaration adds.
-module _ (W : List ℕ) where
-  unfoldable roles_at : Found → Roles
-  roles_at (At k) f = roles_of (word 2 W k) (word 3 W k) (word 4 W k) f
-  roles_at Nothing f = none
+module _ (E : List Entry) where
+  unfoldable roles_at : Option ℕ → Roles
+  roles_at (Some k) f = roles_by (entry E k).roles f
+  roles_at None f = none
 
-unfoldable more : Found → ℕ
-more (At k) = 0
-more Nothing = 1
+unfoldable more : Option ℕ → ℕ
+more (Some k) = 0
+more None = 1
 
-module _ (text name : Bytes) (W : List ℕ) where
-  roles_at_lem : (i n : ℕ) (f : Fixity) → role (operators_from text W i n) name f ≡ roles_at W (coded_find text W name i n) f
+module _ (text name : Bytes) (E : List Entry) where
+  roles_at_lem : (i n : ℕ) (f : Fixity) → role (operators_from text E i n) name f ≡ roles_at E (coded_find text E name i n) f
   unfolding coded_find operators_from role roles_at
   roles_at_lem i zero f = refl
-  roles_at_lem i (suc n) f = go (same name (name_at text W i)) refl (roles_at_lem (suc i) n f)
+  roles_at_lem i (suc n) f = go (same name (name_at text E i)) refl (roles_at_lem (suc i) n f)
     where
       go :
-          (b : Bool) → same name (name_at text W i) ≡ b
-          → role (operators_from text W (suc i) n) name f ≡ roles_at W (coded_find text W name (suc i) n) f
-          → role (operators_from text W i (suc n)) name f ≡ roles_at W (coded_find text W name i (suc n)) f
+          (b : Bool) → same name (name_at text E i) ≡ b
+          → role (operators_from text E (suc i) n) name f ≡ roles_at E (coded_find text E name (suc i) n) f
+          → role (operators_from text E i (suc n)) name f ≡ roles_at E (coded_find text E name i (suc n)) f
       go true e u = rw (operators_from, coded_find, e, role)
       go false e u = rw (operators_from, coded_find, e, role) u
 
-  name_at_lem : (i n k : ℕ) → coded_find text W name i n ≡ At k → same name (name_at text W k) ≡ true
+  name_at_lem : (i n k : ℕ) → coded_find text E name i n ≡ Some k → same name (name_at text E k) ≡ true
   unfolding coded_find
   name_at_lem i zero k h = impossible cc
-  name_at_lem i (suc n) k h = go (same name (name_at text W i)) refl (name_at_lem (suc i) n k)
+  name_at_lem i (suc n) k h = go (same name (name_at text E i)) refl (name_at_lem (suc i) n k)
     where
       go :
-          (b : Bool) → same name (name_at text W i) ≡ b → (coded_find text W name (suc i) n ≡ At k → same name (name_at text W k) ≡ true)
-          → same name (name_at text W k) ≡ true
-      go true e u = let l : At i ≡ At k = rw (e, coded_find) at h in let z : i ≡ k = cc in rw z at e
+          (b : Bool) → same name (name_at text E i) ≡ b → (coded_find text E name (suc i) n ≡ Some k → same name (name_at text E k) ≡ true)
+          → same name (name_at text E k) ≡ true
+      go true e u = let l : Some i ≡ Some k = rw (e, coded_find) at h in let z : i ≡ k = cc in rw z at e
       go false e u = u (rw (e, coded_find) at h)
 
-  count_from : (i n : ℕ) → length (operators_from text W i n) ≡ n
+  count_from : (i n : ℕ) → length (operators_from text E i n) ≡ n
   unfolding operators_from
   count_from i zero = refl
   count_from i (suc n) = ap suc (count_from (suc i) n)
 
   declared_from :
-      (x : Fixity) (q : Role) (i n : ℕ) → length (declare_role name x q (operators_from text W i n)) ≡ more (coded_find text W name i n) + n
+      (x : Fixity) (q : Role) (i n : ℕ) → length (declare_role name x q (operators_from text E i n)) ≡ more (coded_find text E name i n) + n
   unfolding operators_from declare_role coded_find more
   declared_from x q i zero = refl
-  declared_from x q i (suc n) = go (same name (name_at text W i)) refl (declared_from x q (suc i) n)
+  declared_from x q i (suc n) = go (same name (name_at text E i)) refl (declared_from x q (suc i) n)
     where
       go :
-          (b : Bool) → same name (name_at text W i) ≡ b
-          → length (declare_role name x q (operators_from text W (suc i) n)) ≡ more (coded_find text W name (suc i) n) + n
-          → length (declare_role name x q (operators_from text W i (suc n))) ≡ more (coded_find text W name i (suc n)) + suc n
+          (b : Bool) → same name (name_at text E i) ≡ b
+          → length (declare_role name x q (operators_from text E (suc i) n)) ≡ more (coded_find text E name (suc i) n) + n
+          → length (declare_role name x q (operators_from text E i (suc n))) ≡ more (coded_find text E name i (suc n)) + suc n
       go true e h = rw (e, declare_role, coded_find) (omega (arith, count_from (suc i) n))
       go false e h = rw (e, declare_role, coded_find) (omega arith)
 
-fit_roles : (p i q : ℕ) → IsRole p × IsRole i × IsRole q → (f : Fixity) → Fit (roles_of p i q f)
+fit_roles : (r : Coded.Roles) (f : Fixity) → Fit (roles_by r f)
 unfolding roles_of
-fit_roles p i q (a, b, c) Prefix = a.1
-fit_roles p i q (a, b, c) Infix = b.1
-fit_roles p i q (a, b, c) Postfix = c.1
+fit_roles r Prefix = (role_valid r.prefix).1
+fit_roles r Infix = (role_valid r.«infix»).1
+fit_roles r Postfix = (role_valid r.postfix).1
 
 module _ (text : Bytes) (t : Table) where
   -- The entries of a table are its operators.
   pub table-count : length (table_of text t) ≡ t.count
   unfolding table_of
-  table-count = count_from text text t.words 0 t.count
+  table-count = count_from text text t.entries 0 t.count
 
   module _ (name : Bytes) where
-    table_roles : (a : Found) → Finds text t name a → (f : Fixity) → role (table_of text t) name f ≡ roles_at t.words a f
+    table_roles : (a : Option ℕ) → Finds text t name a → (f : Fixity) → role (table_of text t) name f ≡ roles_at t.entries a f
     unfolding table_of
-    table_roles a e f = roles_at_lem text name t.words 0 t.count f ∙ ap (λ a. roles_at t.words a f) e
+    table_roles a e f = roles_at_lem text name t.entries 0 t.count f ∙ ap (λ a. roles_at t.entries a f) e
 
     -- An entry that is found is one of them, has the name, and has the numbers of the name's roles.
-    module _ {k : ℕ} (e : Finds text t name (At k)) where
+    module _ {k : ℕ} (e : Finds text t name (Some k)) where
       pub found_below : k < t.count
-      found_below = found_within text t.words name t.count k e
+      found_below = found_within text t.entries name t.count k e
 
-      pub found_name : name_at text t.words k ≡ name
-      found_name = sym (same_eq name (name_at text t.words k) (name_at_lem text name t.words 0 t.count k e))
+      pub found_name : name_at text t.entries k ≡ name
+      found_name = sym (same_eq name (name_at text t.entries k) (name_at_lem text name t.entries 0 t.count k e))
 
       pub found_role :
-          (f : Fixity) → role (table_of text t) name f ≡ roles_of (word 2 t.words k) (word 3 t.words k) (word 4 t.words k) f
+          (f : Fixity) → role (table_of text t) name f ≡ roles_by (entry t.entries k).roles f
       unfolding roles_at
-      found_role f = table_roles (At k) e f
+      found_role f = table_roles (Some k) e f
 
-      pub found_roles : role (table_of text t) name ≡ roles_of (word 2 t.words k) (word 3 t.words k) (word 4 t.words k)
+      pub found_roles : role (table_of text t) name ≡ roles_by (entry t.entries k).roles
       found_roles = fun_ext found_role
 
       pub found_codes :
-          Sound text t
-          → (word 2 t.words k ≡ role_code (role (table_of text t) name Prefix))
-          × (word 3 t.words k ≡ role_code (role (table_of text t) name Infix))
-          × (word 4 t.words k ≡ role_code (role (table_of text t) name Postfix))
+          ((entry t.entries k).roles.prefix.code ≡ role_code (role (table_of text t) name Prefix))
+          × ((entry t.entries k).roles.«infix».code ≡ role_code (role (table_of text t) name Infix))
+          × ((entry t.entries k).roles.postfix.code ≡ role_code (role (table_of text t) name Postfix))
       unfolding roles_of
-      found_codes sound =
-          let (p, i, q) = sound.roles k found_below in
-          (sym (ap role_code (found_role Prefix) ∙ p.0), sym (ap role_code (found_role Infix) ∙ i.0), sym (ap role_code (found_role Postfix) ∙ q.0))
+      found_codes =
+          let r = (entry t.entries k).roles in (
+            sym (ap role_code (found_role Prefix) ∙ (role_valid r.prefix).0),
+            sym (ap role_code (found_role Infix) ∙ (role_valid r.«infix»).0),
+            sym (ap role_code (found_role Postfix) ∙ (role_valid r.postfix).0),
+          )
 
       -- A role declared for it changes its operator.
       pub found_count : (f : Fixity) (r : Role) → length (declare_role name f r (table_of text t)) ≡ t.count
       unfolding table_of more
-      found_count f r = declared_from text name t.words f r 0 t.count ∙ rw e (omega arith)
+      found_count f r = declared_from text name t.entries f r 0 t.count ∙ rw e (omega arith)
 
     -- A name that is not found has no role, a role declared for it comes with one more operator, and to clear it changes nothing.
-    module _ (e : Finds text t name Nothing) where
+    module _ (e : Finds text t name None) where
       pub unfound_role : (f : Fixity) → role (table_of text t) name f ≡ none
       unfolding roles_at
-      unfound_role f = table_roles Nothing e f
+      unfound_role f = table_roles None e f
 
       pub unfound_roles : role (table_of text t) name ≡ (λ f. none)
       unfound_roles = fun_ext unfound_role
 
       pub unfound_count : (f : Fixity) (r : Role) → length (declare_role name f r (table_of text t)) ≡ suc t.count
       unfolding table_of more
-      unfound_count f r = declared_from text name t.words f r 0 t.count ∙ rw e (omega arith)
+      unfound_count f r = declared_from text name t.entries f r 0 t.count ∙ rw e (omega arith)
 
       pub cleared_none : remove_roles name (table_of text t) ≡ table_of text t
       cleared_none =
-          rw table_entries (removed_nothing name (entry text t.words) 0 t.count (placed text t name e))
+          rw table_entries (removed_nothing name (operator_at text t.entries) 0 t.count (placed text t name e))
 
   -- Every role in force has a precedence of 1 to 1,200.
-  pub sound_bounded : Sound text t → Bounded (table_of text t)
-  sound_bounded sound m f = go (coded_find text t.words m 0 t.count) refl
+  pub table_bounded : Bounded (table_of text t)
+  table_bounded m f = go (coded_find text t.entries m 0 t.count) refl
     where
-      go : (a : Found) → Finds text t m a → Fit (role (table_of text t) m f)
-      go (At k) e = rw (found_role m e f) (fit_roles _ _ _ (sound.roles k (found_below m e)) f)
-      go Nothing e = rw (unfound_role m e f) tt
+      go : (a : Option ℕ) → Finds text t m a → Fit (role (table_of text t) m f)
+      go (Some k) e = rw (found_role m e f) (fit_roles (entry t.entries k).roles f)
+      go None e = rw (unfound_role m e f) tt
 
 -- One role alone meets the conditions, and is not both.
 alone_lawful : (f : Fixity) (r : Role) (old : Roles) → ((g : Fixity) → old g ≡ none) → lawful (replaced f r old) ≡ true

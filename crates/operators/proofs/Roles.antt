@@ -6,50 +6,18 @@ use mathlib.Core.Option.{Option, none, some}
 use Prim.Native.Nat.{ℕ, ◌≤◌, ◌<◌}
 use native.Mathlib.Omega.{arith}
 use lib.Dec.{eqb, ltb, leb}
-use borrow.Author.Tests.{not-true, not-false, lt-ltb, le-ltb, le-leb, lt-leb, eqb-true, eqb-false, eq-eqb, ne_eqb}
-use Rattle.grammar.specs.Operator.{
-  Prefix,
-  Infix,
-  Postfix,
-  Associativity,
-  left,
-  right,
-  non,
-  Role,
-  same_associativity,
-  one_precedence_test,
-  only,
-  absent_role,
-  beside_infix,
-  lawful_associativities,
-  lawful,
-  is_some,
-  is_apart,
-}
-use Rattle.grammar.specs.Coded.{fixity_of}
+use borrow.Author.Tests.{lt-ltb, le-ltb, le-leb, lt-leb, eqb-true, eqb-false}
+use Rattle.grammar.specs.Operator.{Associativity, left, right, non, Role, same_associativity, one_precedence_test, only, absent_role, beside_infix, lawful_associativities, lawful, is_some, is_apart}
 use Rattle.grammar.specs.SpanTree.{root_precedence}
 use Rattle.rows.specs.Codes.{role_of, roles_of}
 use Rattle.rows.proofs.Codes.{no_role, left-role, non_role, right-role, number_cases, some_role}
 
--- A test that was made, and negated.
-pub failed : {r x : Bool} → r ≡ x → not r ≡ true → x ≡ false
-failed e d = sym e ∙ not-true _ d
+-- A test whether there is a role that was made, and of its associativity.
+pub is_zero : {b : Bool} {c : ℕ} → b ≡ eqb c 0 → b ≡ true → c ≡ 0
+is_zero e d = eqb-true _ _ (sym e ∙ d)
 
-pub held : {r x : Bool} → r ≡ x → not r ≡ false → x ≡ true
-held e d = sym e ∙ not-false _ d
-
--- The fixity of a number.
-pub infix_number : (f : ℕ) → f ≡ 1 → fixity_of f ≡ Infix
-unfolding fixity_of
-infix_number f e = rw (eq-eqb f 1 e, fixity_of)
-
-pub prefix_number : (f : ℕ) → (f ≡ 1 → ⊥) → f ≡ 2 → fixity_of f ≡ Prefix
-unfolding fixity_of
-prefix_number f h e = rw (ne_eqb f 1 h, eq-eqb f 2 e, fixity_of)
-
-pub postfix_number : (f : ℕ) → (f ≡ 1 → ⊥) → (f ≡ 2 → ⊥) → fixity_of f ≡ Postfix
-unfolding fixity_of
-postfix_number f h g = rw (ne_eqb f 1 h, ne_eqb f 2 g, fixity_of)
+pub not_zero : {b : Bool} {c : ℕ} → b ≡ eqb c 0 → b ≡ false → c ≡ 0 → ⊥
+not_zero e d = eqb-false _ _ (sym e ∙ d)
 
 -- Whether a role, where there is one, has an associativity.
 module _ (c : ℕ) where

@@ -1,11 +1,11 @@
--- The table of the starting operators, entry by entry: the words of an entry are stored and those of the others kept, and so are the hints.
+-- The table of the starting operators, entry by entry: an entry is stored and the others are kept, and so are the hints.
 -- With all entries it stands for the starting operators, and it is sound.
 use mathlib.Core.Path.{◌≡◌, refl, ap, ◌∙◌}
-use mathlib.Core.List.{List, [], ◌∷◌}
-use Prim.Native.Nat.{ℕ, ◌+◌, ◌-◌, ◌*◌, ◌<◌}
+use mathlib.Core.List.{[], ◌∷◌}
+use Prim.Native.Nat.{ℕ, ◌+◌, ◌-◌, ◌<◌}
 use native.Mathlib.Omega.{arith}
 use lib.Dec.{ltb}
-use lib.ListN.{length, get_or, replicate, get_or-replicate, length-set}
+use lib.ListN.{length, get_or, length-set}
 use lib.Seq.{get_or-set_same}
 use borrow.Author.Tests.{ltb-true}
 use Rattle.grammar.specs.Fault.{longest_text}
@@ -20,50 +20,42 @@ use Rattle.rows.proofs.Codes.{role-code}
 use Rattle.starting_operators.specs.Starting.{name_of, roles_at, start_name, start_roles, start_count}
 use Rattle.starting_operators.proofs.Numbers.{every_number, computed_count, each_start, start_few}
 use Rattle.starting_operators.proofs.NameSizes.{name_sizes}
-use Rattle.starting_operators.proofs.Roles.{start_fit, start_coded, no_postfix}
+use Rattle.starting_operators.proofs.Roles.{start_fit}
 use Rattle.operators.specs.Entries.{
-  word,
+  entry,
   name_in,
-  table_by,
+  operator_of,
   table_of,
   less_by,
   last_two,
   hash_of,
-  started_words,
-  started_hints,
+  IsStart,
+  PutsStart,
   Starting,
 }
+use Rattle.operators.specs.declared.table.Entry.{Entry}
 use Rattle.operators.specs.declared.table.Table.{Table}
 use Rattle.operators.proofs.Hashes.{hint_kept}
 use Rattle.operators.proofs.Numbered.{roles_equal, operators_equal, from, from_suc, from_equal}
-use Rattle.operators.proofs.EntryWords.{stores, stores_length, stores_other, stores_here, stores_behind}
+use Rattle.operators.proofs.Changed.{Changed, set_changed}
 use Rattle.operators.proofs.TableEntries.{name_at_start}
-use Rattle.operators.proofs.Searches.{entry, table_entries}
-use Rattle.operators.proofs.SoundEntries.{SoundAt, all_sound}
+use Rattle.operators.proofs.Searches.{operator_at, table_entries}
+use Rattle.operators.proofs.SoundEntries.{SoundEntry, all_sound}
 
--- The words of the starting operator with a number, and the hint for its hash.
-pub record Started (W H : List ℕ) (j : ℕ) : Type 0 where
-  pub start : word 0 W j ≡ longest_text + j
-  pub size : word 1 W j ≡ length (start_name j)
-  pub prefixed : word 2 W j ≡ role_code (start_roles j Prefix)
-  pub between : word 3 W j ≡ role_code (start_roles j Infix)
-  pub hinted : 0 < get_or H (hash_of (start_name j)) 0
+-- The entry of the starting operator with a number, and the hint for its hash.
+pub record Started (t : Table) (j : ℕ) : Type 0 where
+  pub is_start : IsStart j (entry t.entries j)
+  pub hinted : 0 < get_or t.hints (hash_of (start_name j)) 0
 
--- The entries of the first `n`; no entry has a postfix role.
-pub record StartedTo (n : ℕ) (W H : List ℕ) : Type 0 where
-  pub words : length W ≡ 320
-  pub hints : length H ≡ 128
-  pub started : (j : ℕ) → j < n → Started W H j
-  pub behind : (j : ℕ) → j < 64 → word 4 W j ≡ 0
+-- Those of the first `n`, in a table that counts them all.
+pub record StartedTo (n : ℕ) (t : Table) : Type 0 where
+  pub long : length t.entries ≡ 64
+  pub hints : length t.hints ≡ 128
+  pub counted : t.count ≡ start_count
+  pub started : (j : ℕ) → j < n → Started t j
 
-pub none_started : StartedTo 0 (replicate 320 0) (replicate 128 0)
-none_started =
-    record {
-      words = refl;
-      hints = refl;
-      started = λ j h. absurd (omega arith);
-      behind = λ j h. get_or-replicate 320 (j * 5 + 4) 0 0 (omega arith);
-    }
+pub none_started : (t : Table) → length t.entries ≡ 64 → length t.hints ≡ 128 → t.count ≡ start_count → StartedTo 0 t
+none_started t e h c = record { long = e; hints = h; counted = c; started = λ j l. absurd (omega arith) }
 
 -- The hash of every starting name is below 128, which is computed.
 start_hash : (k : ℕ) → k < start_count → hash_of (start_name k) < 128
@@ -71,44 +63,31 @@ unfolding computed_count every_number hash_of less_by last_two
 start_hash k h = ltb-true _ _ (each_start (λ k o. ltb (hash_of o.name) 128) refl k h)
 
 -- One more entry.
-module _ {n : ℕ} {W H : List ℕ} (s : StartedTo n W H) (h : n < start_count) where
-  abbrev entry_words : List ℕ
-  entry_words = (longest_text + n) ∷ length (start_name n) ∷ role_code (start_roles n Prefix) ∷ role_code (start_roles n Infix) ∷ []
+pub next_started : {n : ℕ} {t u : Table} → StartedTo n t → n < start_count → PutsStart t n u → StartedTo (n + 1) u
+next_started {n} {t} {u} s h p =
+    record {
+      long = changed.long ∙ s.long;
+      hints = ap length p.hints ∙ length-set t.hints (hash_of (start_name n)) (n + 1) ∙ s.hints;
+      counted = p.counted ∙ s.counted;
+      started = λ j l. below j n (λ b. old j (λ e. omega arith) (s.started j b)) (λ b. let e : j ≡ n = omega arith in rw e new);
+    }
+  where
+    changed : Changed t.entries n p.new_entry u.entries
+    changed = rw p.entries (set_changed t.entries n p.new_entry (omega (arith, start_few, s.long)))
 
-  new_entry : Started (started_words W n) (started_hints H n) n
-  new_entry =
-      record {
-        start = here 0 (omega arith);
-        size = here 1 (omega arith);
-        prefixed = here 2 (omega arith);
-        between = here 3 (omega arith);
-        hinted = rw (get_or-set_same H (hash_of (start_name n)) (n + 1) 0 (omega (arith, start_hash n h, s.hints))) (omega arith);
-      }
-    where
-      here : (l : ℕ) → l < 4 → word (0 + l) (stores n 0 W entry_words) n ≡ get_or entry_words l 0
-      here l b = stores_here n 0 W entry_words (omega arith) s.words (omega (arith, start_few)) l b
+    new : Started u n
+    new =
+        record {
+          is_start = rw changed.here p.is_start;
+          hinted = rw (p.hints, get_or-set_same t.hints (hash_of (start_name n)) (n + 1) 0 (omega (arith, start_hash n h, s.hints))) (omega arith);
+        }
 
-  old_entry : (j : ℕ) → (j ≡ n → ⊥) → Started W H j → Started (started_words W n) (started_hints H n) j
-  old_entry j d a =
-      record {
-        start = kept 0 (omega arith) ∙ a.start;
-        size = kept 1 (omega arith) ∙ a.size;
-        prefixed = kept 2 (omega arith) ∙ a.prefixed;
-        between = kept 3 (omega arith) ∙ a.between;
-        hinted = hint_kept H (hash_of (start_name n)) n _ (omega (arith, start_hash n h, s.hints)) a.hinted;
-      }
-    where
-      kept : (l : ℕ) → l < 5 → word l (stores n 0 W entry_words) j ≡ word l W j
-      kept l b = stores_other n 0 W entry_words (omega arith) j d l b
-
-  pub next_started : StartedTo (n + 1) (started_words W n) (started_hints H n)
-  next_started =
-      record {
-        words = stores_length n 0 W entry_words ∙ s.words;
-        hints = length-set H (hash_of (start_name n)) (n + 1) ∙ s.hints;
-        started = λ j l. below j n (λ b. old_entry j (λ e. omega arith) (s.started j b)) (λ b. let e : j ≡ n = omega arith in rw e new_entry);
-        behind = λ j l. stores_behind n 0 W entry_words 4 (omega arith) (omega arith) j ∙ s.behind j l;
-      }
+    old : (j : ℕ) → (j ≡ n → ⊥) → Started t j → Started u j
+    old j d a =
+        record {
+          is_start = rw (changed.others j d) a.is_start;
+          hinted = rw p.hints (hint_kept t.hints (hash_of (start_name n)) n _ (omega (arith, start_hash n h, s.hints)) a.hinted);
+        }
 
 -- A table is the list of its operators by number.
 from_table : (T : G.Table) → from (λ k. record { name = name_of T k; roles = roles_at T k }) 0 (length T) ≡ T
@@ -124,49 +103,50 @@ unfolding start_name start_roles start_count
 from_start = from_table start_table
 
 -- All entries.
-module _ {W H : List ℕ} (s : StartedTo start_count W H) (text : Bytes) where
-  abbrev t : Table
-  t = table_by W H start_count
+module _ {t : Table} (s : StartedTo start_count t) (text : Bytes) where
+  module _ (j : ℕ) (h : j < start_count) where
+    abbrev e : Entry
+    e = entry t.entries j
 
-  start-spelled : (j : ℕ) → j < start_count → name_in text (word 0 W j) (word 1 W j) ≡ start_name j
-  start-spelled j h =
-      let a = (s.started j h).start in
-      let e : word 0 W j - longest_text ≡ j = omega arith in
-      name_at_start text (word 0 W j) (word 1 W j) (omega arith) ∙ ap start_name e
+    abbrev is : IsStart j e
+    is = (s.started j h).is_start
 
-  postfixed : (j : ℕ) → j < start_count → word 4 W j ≡ role_code (start_roles j Postfix)
-  postfixed j h = s.behind j (omega (arith, start_few)) ∙ no_postfix j
+    number : e.start - longest_text ≡ j
+    number = let p = is.placed in omega arith
 
-  start_entry : (j : ℕ) → j < start_count → entry text W j ≡ numbered j
-  unfolding roles_of
-  start_entry j h =
-      let a = s.started j h in
-      operators_equal (start-spelled j h)
-      (roles_equal _ _ (coded Prefix a.prefixed) (coded Infix a.between) (coded Postfix (postfixed j h)))
-    where
-      coded : {c : ℕ} (f : Fixity) → c ≡ role_code (start_roles j f) → role_of c ≡ start_roles j f
-      coded f e = ap role_of e ∙ role-code (start_roles j f) (start_fit j f)
+    start-spelled : name_in text e.start e.size ≡ start_name j
+    start-spelled = name_at_start text e.start e.size (omega (arith, is.placed)) ∙ ap start_name number
+
+    start_entry : operator_of text e ≡ numbered j
+    unfolding roles_of
+    start_entry =
+        operators_equal start-spelled
+        (roles_equal _ _ (coded Prefix is.roled.prefixed) (coded Infix is.roled.between) (coded Postfix is.roled.postfixed))
+      where
+        coded : {c : ℕ} (f : Fixity) → c ≡ role_code (start_roles j f) → role_of c ≡ start_roles j f
+        coded f e = ap role_of e ∙ role-code (start_roles j f) (start_fit j f)
+
+    start_sound : SoundEntry text t.hints e
+    start_sound =
+        record {
+          in_text = λ l. absurd (omega (arith, is.placed));
+          at_start = λ l. rw number (h, is.sized);
+          named = omega (arith, is.sized, name_sizes j h);
+          hinted = rw start-spelled (s.started j h).hinted;
+        }
 
   start-table : table_of text t ≡ start_table
-  start-table = table_entries text t ∙ from_equal (entry text W) numbered 0 start_count (λ j a b. start_entry j (omega arith)) ∙ from_start
+  start-table =
+      table_entries text t
+      ∙ ap (from (operator_at text t.entries) 0) s.counted
+      ∙ from_equal (operator_at text t.entries) numbered 0 start_count (λ j a b. start_entry j (omega arith))
+      ∙ from_start
 
-  start_sound : (j : ℕ) → j < start_count → SoundAt text H W j
-  start_sound j h =
-      let a = s.started j h in
-      let e : word 0 W j - longest_text ≡ j = omega arith in
-      record {
-        in_text = λ l. absurd (omega arith);
-        at_start = λ l. rw e (h, a.size);
-        named = omega (arith, name_sizes j h);
-        roles = (
-          rw a.prefixed (start_coded j Prefix),
-          rw a.between (start_coded j Infix),
-          rw (postfixed j h) (start_coded j Postfix),
-        );
-        hinted = rw (start-spelled j h) a.hinted;
-      }
-
-pub starting : {W H : List ℕ} → StartedTo start_count W H → Starting (table_by W H start_count)
-starting {W} {H} s text =
-    let e = start-table s text in
-    (all_sound text (table_by W H start_count) start_few (start_sound s text) (rw e distinct_start) (rw e alive_start), e)
+pub starting : {t : Table} → StartedTo start_count t → Starting t
+starting {t} s text =
+    let e = start-table s text in (
+      all_sound text t (omega (arith, start_few, s.counted)) (λ j h. start_sound s text j (omega (arith, s.counted)))
+          (rw e distinct_start)
+          (rw e alive_start),
+      e,
+    )

@@ -1,23 +1,26 @@
--- Laws of a table's words, each for one turn of a loop: the name at an entry, the search of a name, a test of every operator.
+-- Laws of a table's entries, each for one turn of a loop: the name at an entry, the search of a name, a test of every operator.
 -- They unfold the definitions of `Entries` once.
-use Rattle.starting_operators.proofs.NameSizes.{name_sizes}
-use Rattle.starting_operators.proofs.Numbers.{start_few}
-use mathlib.Core.Path.{◌≡◌, sym, ap}
+use Rattle.starting_operators.proofs.Numbers.{found_some, found_none, beyond_unnumbered, named_start}
+use Rattle.std.specs.Option.{option_eq}
+use mathlib.Core.Path.{◌≡◌, refl, sym, ap, ◌∙◌}
 use mathlib.Core.Bool.{Bool, true, false}
-use mathlib.Core.List.{List}
-use Prim.Native.Nat.{◌^◌, ℕ, suc, ◌+◌, ◌-◌, ◌≤◌, ◌<◌}
+use mathlib.Core.List.{List, [], ◌∷◌}
+use Rattle.std.specs.List.{list_all}
+use Prim.Native.Nat.{ℕ, zero, suc, ◌+◌, ◌-◌, ◌≤◌, ◌<◌}
 use native.Mathlib.Numerals.{add-one}
 use native.Mathlib.Omega.{arith}
+use Rattle.std.specs.Prelude.{Some, None, nat_eq}
 use lib.ListN.{length, take, drop, length-take, length-drop}
-use borrow.Author.Tests.{lt-ltb, le-ltb}
+use borrow.Author.Tests.{lt-ltb, le-ltb, ne_eqb}
 use Rattle.grammar.specs.Fault.{longest_text}
 use Rattle.grammar.specs.Bytes.{Bytes, same}
 use Rattle.grammar.specs.Operator.{Roles, Table, is_apart, lawful, every_operator, permitted}
 use Rattle.grammar.proofs.Logic.{below}
-use Rattle.rows.specs.Codes.{roles_of}
-use Rattle.starting_operators.specs.Starting.{start_name}
-use Rattle.operators.specs.Entries.{word, name_in, name_at, Stands, coded_find, operators_from}
-use Rattle.operators.specs.declared.table.Found.TheVariants.{At, Nothing}
+use Rattle.rows.specs.InUse.{roles_by}
+use Rattle.starting_operators.specs.Starting.{start_number, start_name, start_count, found_number}
+use Rattle.operators.specs.Entries.{entry, name_in, name_at, Stands, coded_find, operator_of, operators_from, table_of}
+use Rattle.operators.specs.declared.table.Entry.{Entry}
+use Rattle.operators.specs.declared.table.Table as Coded
 
 -- A name is a part of the text, or that of a starting operator, with as many bytes as it is said to have.
 module _ (text : Bytes) (start size : ℕ) where
@@ -35,55 +38,63 @@ module _ (text : Bytes) (start size : ℕ) where
       (λ h. rw (name_in_text h) (simp (length-take, length-drop) (omega (arith, p h))))
       (λ h. rw (name_at_start h) (sym (q h).1))
 
-  -- So it ends at a number of the machine's own size.
-  pub name_end : Stands text start size → length text < 2 ^ 64 → start + size < 2 ^ 64
-  name_end (p, q) a =
-      below start longest_text (λ h. omega (arith, p h)) (λ h. let (k, s) = q h in omega (arith, start_few, name_sizes _ k))
+-- A name is that of the starting operator whose number it has.
+pub named_test : (name : Bytes) (k : ℕ) → k < start_count → option_eq nat_eq (found_number name) (Some k) ≡ same name (start_name k)
+named_test name k h =
+    below (start_number name) start_count
+    (λ l. ap (λ f. option_eq nat_eq f (Some k)) (found_some name l) ∙ named_start name k h)
+    (λ l.
+    ap (λ f. option_eq nat_eq f (Some k)) (found_none name (beyond_unnumbered name l))
+    ∙ sym (ne_eqb (start_number name) k (λ e. omega arith))
+    ∙ named_start name k h)
 
 -- Looking for a name: from the first entry on ..
-pub find_all : (text : Bytes) (W : List ℕ) (name : Bytes) (n : ℕ) → coded_find text W name 0 n ≡ coded_find text W name 0 (n - 0)
-find_all text W name n = ap (coded_find text W name 0) (omega arith)
+pub find_all : (text : Bytes) (E : List Entry) (name : Bytes) (n : ℕ) → coded_find text E name 0 n ≡ coded_find text E name 0 (n - 0)
+find_all text E name n = ap (coded_find text E name 0) (omega arith)
 
 -- Looking for a name: there is none behind the last entry; ..
-pub find_none : (text : Bytes) (W : List ℕ) (name : Bytes) (i n : ℕ) → n ≤ i → coded_find text W name i (n - i) ≡ Nothing
+pub find_none : (text : Bytes) (E : List Entry) (name : Bytes) (i n : ℕ) → n ≤ i → coded_find text E name i (n - i) ≡ None
 unfolding coded_find
-find_none text W name i n h = let k : n - i ≡ 0 = omega arith in rw (k, coded_find)
+find_none text E name i n h = let k : n - i ≡ 0 = omega arith in rw (k, coded_find)
 
 -- .. at entry `i` of `n`, it is this one, or one behind it, or there is none.
-module _ (text : Bytes) (W : List ℕ) (name : Bytes) (i n : ℕ) (h : i < n) where
-  pub find_here : same name (name_at text W i) ≡ true → coded_find text W name i (n - i) ≡ At i
+module _ (text : Bytes) (E : List Entry) (name : Bytes) (i n : ℕ) (h : i < n) where
+  pub find_here : same name (name_at text E i) ≡ true → coded_find text E name i (n - i) ≡ Some i
   unfolding coded_find
   find_here e = let k : n - i ≡ suc (n - (i + 1)) = omega arith in rw (k, coded_find, e)
 
   pub find_next :
-      same name (name_at text W i) ≡ false → coded_find text W name i (n - i) ≡ coded_find text W name (i + 1) (n - (i + 1))
+      same name (name_at text E i) ≡ false → coded_find text E name i (n - i) ≡ coded_find text E name (i + 1) (n - (i + 1))
   unfolding coded_find
   find_next e =
       let k : n - i ≡ suc (n - (i + 1)) = omega arith in
-      rw (k, coded_find, e) (ap (λ j. coded_find text W name j (n - (i + 1))) (sym (add-one i)))
+      rw (k, coded_find, e) (ap (λ j. coded_find text E name j (n - (i + 1))) (sym (add-one i)))
 
--- A test of every operator, entry by entry.
-module _ (q : Roles → Bool) (text W : List ℕ) where
-  pub every_end : (i n : ℕ) → n ≤ i → every_operator q (operators_from text W i (n - i)) ≡ true
+-- A test of every operator is one of every entry.
+module _ (q : Roles → Bool) (text : Bytes) where
+  abbrev pub tested : Entry → Bool
+  tested e = q (roles_by e.roles)
+
+  operators_behind : (e : Entry) (E : List Entry) (i n : ℕ) → operators_from text (e ∷ E) (suc i) n ≡ operators_from text E i n
+  unfolding operators_from
+  operators_behind e E i zero = refl
+  operators_behind e E i (suc n) = ap (λ T. operator_of text (entry E i) ∷ T) (operators_behind e E (suc i) n)
+
+  every_first : (n : ℕ) (E : List Entry) → n ≤ length E → list_all tested (take n E) ≡ every_operator q (operators_from text E 0 n)
   unfolding every_operator operators_from
-  every_end i n h = let k : n - i ≡ 0 = omega arith in rw (k, operators_from)
+  every_first zero E h = refl
+  every_first (suc n) [] h = absurd (omega arith)
+  every_first (suc n) (e ∷ E) h = go (tested e) refl (every_first n E (omega arith) ∙ ap (every_operator q) (sym (operators_behind e E 0 n)))
+    where
+      go :
+          (b : Bool) → tested e ≡ b → list_all tested (take n E) ≡ every_operator q (operators_from text (e ∷ E) 1 n)
+          → list_all tested (take (suc n) (e ∷ E)) ≡ every_operator q (operators_from text (e ∷ E) 0 (suc n))
+      go true d u = rw (d, operators_from, every_operator) u
+      go false d u = rw (d, operators_from, every_operator)
 
-  pub every_all : (n : ℕ) → every_operator q (operators_from text W 0 n) ≡ every_operator q (operators_from text W 0 (n - 0))
-  every_all n = ap (λ k. every_operator q (operators_from text W 0 k)) (omega arith)
-
-  module _ (i n : ℕ) (h : i < n) where
-    pub every_not :
-        q (roles_of (word 2 W i) (word 3 W i) (word 4 W i)) ≡ false → every_operator q (operators_from text W i (n - i)) ≡ false
-    unfolding every_operator operators_from
-    every_not e = let k : n - i ≡ suc (n - (i + 1)) = omega arith in rw (k, operators_from, e, every_operator)
-
-    pub every_next :
-        q (roles_of (word 2 W i) (word 3 W i) (word 4 W i)) ≡ true
-        → every_operator q (operators_from text W i (n - i)) ≡ every_operator q (operators_from text W (i + 1) (n - (i + 1)))
-    unfolding every_operator operators_from
-    every_next e =
-        let k : n - i ≡ suc (n - (i + 1)) = omega arith in
-        rw (k, operators_from, e, every_operator) (ap (λ j. every_operator q (operators_from text W j (n - (i + 1)))) (sym (add-one i)))
+  pub every_entry : (t : Coded.Table) → t.count ≤ length t.entries → list_all tested (take t.count t.entries) ≡ every_operator q (table_of text t)
+  unfolding table_of
+  every_entry t h = every_first t.count t.entries h
 
 -- The overloading rule, where one operator has both an infix and a postfix role, and where none has.
 pub by_conditions : (T : Table) → every_operator is_apart T ≡ false → permitted T ≡ every_operator lawful T

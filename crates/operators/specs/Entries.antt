@@ -1,37 +1,43 @@
--- The operators in force as words: the table that a struct stands for, over a text.
-use Rattle.std.specs.Prelude.{◌≡◌, true, false, List, [], ◌∷◌, ℕ, zero, suc, ◌+◌, ◌-◌, ◌*◌, ◌≤◌, ◌<◌, ltb, leb, length, take, drop, get_or, set}
+-- The operators in force as entries: the table that a struct stands for, over a text.
+use Rattle.std.specs.Prelude.{◌≡◌, true, false, List, [], ◌∷◌, ℕ, zero, suc, ◌+◌, ◌-◌, ◌*◌, ◌≤◌, ◌<◌, ltb, leb, length, take, drop, get_or, set, Option, Some, None}
 use Rattle.std.proofs.Math.Option.{some}
 use Rattle.grammar.specs.Fault.{longest_text}
 use Rattle.grammar.specs.Bytes.{Bytes, same}
-use Rattle.grammar.specs.Operator.{Role}
 use Rattle.grammar.specs.Operator as G
 use Rattle.grammar.specs.Declaration.{most_operators, start_table}
-use Rattle.grammar.specs.Coded.{fixity_of}
-use Rattle.rows.specs.Codes.{role_code, role_of, roles_of, IsRole}
-use Rattle.starting_operators.specs.Starting.{start_name, start_roles, start_count}
-use Rattle.operators.specs.declared.table.Found.{Found}
-use Rattle.operators.specs.declared.table.Found.TheVariants.{At, Nothing}
+use Rattle.rows.specs.declared.fixity.Fixity.{Fixity}
+use Rattle.rows.specs.declared.fixity.Fixity.TheVariants.{Infix, Prefix, Postfix}
+use Rattle.rows.specs.declared.role.Role.{Role}
+use Rattle.rows.specs.declared.roles.Roles.{Roles}
+use Rattle.rows.specs.Fields.{no_roles}
+use Rattle.rows.specs.Codes.{role_of, fixity_in}
+use Rattle.rows.specs.InUse.{roles_by}
+use Rattle.starting_operators.specs.Starting.{start_name, start_count, HasRoles}
+use Rattle.operators.specs.declared.table.Entry.{Entry}
 use Rattle.operators.specs.declared.table.Quick.{Quick}
 use Rattle.operators.specs.declared.table.Quick.TheVariants as Known
 use Rattle.operators.specs.declared.table.Table.{Table}
 
--- The words of entry `i`: where its name begins and how many bytes it has, and the numbers of its roles.
-abbrev pub word : ℕ → List ℕ → ℕ → ℕ
-word k W i = get_or W (i * 5 + k) 0
+-- Entry `i`, and its fields: where its name begins and how many bytes it has, and its roles.
+abbrev pub no_entry : Entry
+no_entry = record { start = 0; size = 0; roles = no_roles }
 
-abbrev pub name_start : List ℕ → ℕ → ℕ
-name_start W i = word 0 W i
+abbrev pub entry : List Entry → ℕ → Entry
+entry E i = get_or E i no_entry
 
-abbrev pub name_size : List ℕ → ℕ → ℕ
-name_size W i = word 1 W i
+abbrev pub name_start : List Entry → ℕ → ℕ
+name_start E i = (entry E i).start
+
+abbrev pub name_size : List Entry → ℕ → ℕ
+name_size E i = (entry E i).size
 
 -- A name: a part of the text, or, from offset 16,384 on, that of the starting operator with the number that is left.
 unfoldable pub name_in : Bytes → ℕ → ℕ → Bytes
 name_in text start size =
     elim (ltb start longest_text) [ true ↦ take size (drop start text) | false ↦ start_name (start - longest_text) ]
 
-abbrev pub name_at : Bytes → List ℕ → ℕ → Bytes
-name_at text W i = name_in text (name_start W i) (name_size W i)
+abbrev pub name_at : Bytes → List Entry → ℕ → Bytes
+name_at text E i = name_in text (name_start E i) (name_size E i)
 
 -- A name lies within the text, or is that of a starting operator, with as many bytes.
 abbrev pub InText : Bytes → ℕ → ℕ → Type 0
@@ -44,22 +50,21 @@ abbrev pub Stands : Bytes → ℕ → ℕ → Type 0
 Stands text start size = InText text start size × AtStart start size
 
 -- The first of `n` entries from number `i` on that has the name.
-unfoldable pub coded_find : Bytes → List ℕ → Bytes → ℕ → ℕ → Found
-coded_find text W name i zero = Nothing
-coded_find text W name i (suc n) =
-    elim (same name (name_at text W i)) [ true ↦ At i | false ↦ coded_find text W name (suc i) n ]
+unfoldable pub coded_find : Bytes → List Entry → Bytes → ℕ → ℕ → Option ℕ
+coded_find text E name i zero = None
+coded_find text E name i (suc n) =
+    elim (same name (name_at text E i)) [ true ↦ Some i | false ↦ coded_find text E name (suc i) n ]
 
--- `n` operators from entry `i` on, and those that a table stands for.
-unfoldable pub operators_from : Bytes → List ℕ → ℕ → ℕ → G.Table
-operators_from text W i zero = []
-operators_from text W i (suc n) =
-    record { name = name_at text W i; roles = roles_of (word 2 W i) (word 3 W i) (word 4 W i) } ∷ operators_from text W (suc i) n
+-- The operator that an entry stands for, `n` operators from entry `i` on, and those that a table stands for.
+abbrev pub operator_of : Bytes → Entry → G.Operator
+operator_of text e = record { name = name_in text e.start e.size; roles = roles_by e.roles }
 
-abbrev pub table_by : List ℕ → List ℕ → ℕ → Table
-table_by W H n = record { words = W; hints = H; count = n }
+unfoldable pub operators_from : Bytes → List Entry → ℕ → ℕ → G.Table
+operators_from text E i zero = []
+operators_from text E i (suc n) = operator_of text (entry E i) ∷ operators_from text E (suc i) n
 
 unfoldable pub table_of : Bytes → Table → G.Table
-table_of text t = operators_from text t.words 0 t.count
+table_of text t = operators_from text t.entries 0 t.count
 
 -- A number below 128 from the last two bytes of a name.
 unfoldable pub less_by : ℕ → ℕ → ℕ
@@ -75,34 +80,33 @@ last_two name =
 unfoldable pub hash_of : Bytes → ℕ
 hash_of name = less_by 128 (less_by 256 (less_by 512 (less_by 1024 (less_by 2048 (last_two name)))))
 
--- What holds of every table: room for its operators; a name that is a part of the text, or a starting operator's; numbers of roles; a
--- hint for its hash. No two operators have one name, and each has a role.
+-- What holds of every table: room for its operators; a name that is a part of the text, or a starting operator's; a hint for its hash. No
+-- two operators have one name, and each has a role.
 pub record Sound (text : Bytes) (t : Table) : Type 0 where
   pub sized : t.count ≤ most_operators
-  pub in_text : (j : ℕ) → j < t.count → InText text (name_start t.words j) (name_size t.words j)
-  pub at_start : (j : ℕ) → j < t.count → AtStart (name_start t.words j) (name_size t.words j)
-  pub named : (j : ℕ) → j < t.count → 1 ≤ name_size t.words j
-  pub roles : (j : ℕ) → j < t.count → IsRole (word 2 t.words j) × IsRole (word 3 t.words j) × IsRole (word 4 t.words j)
-  pub hinted : (j : ℕ) → j < t.count → 0 < get_or t.hints (hash_of (name_at text t.words j)) 0
+  pub in_text : (j : ℕ) → j < t.count → InText text (name_start t.entries j) (name_size t.entries j)
+  pub at_start : (j : ℕ) → j < t.count → AtStart (name_start t.entries j) (name_size t.entries j)
+  pub named : (j : ℕ) → j < t.count → 1 ≤ name_size t.entries j
+  pub hinted : (j : ℕ) → j < t.count → 0 < get_or t.hints (hash_of (name_at text t.entries j)) 0
   pub distinct : G.Distinct (table_of text t)
   pub alive : G.Alive (table_of text t)
 
--- The words and the hints with the entry of the starting operator with number `n`; and room for it.
-abbrev pub started_words : List ℕ → ℕ → List ℕ
-started_words W n =
-    set
-    (set
-    (set (set W (n * 5 + 0) (longest_text + n)) (n * 5 + 1) (length (start_name n)))
-    (n * 5 + 2) (role_code (start_roles n G.Prefix)))
-    (n * 5 + 3) (role_code (start_roles n G.Infix))
+-- The entry of the starting operator with number `n`.
+pub record IsStart (n : ℕ) (e : Entry) : Type 0 where
+  pub placed : e.start ≡ longest_text + n
+  pub sized : e.size ≡ length (start_name n)
+  pub roled : HasRoles n e.roles
 
-abbrev pub started_hints : List ℕ → ℕ → List ℕ
-started_hints H n = set H (hash_of (start_name n)) (n + 1)
+-- A table with that entry at place `n` and the hint for it, as `u`; and what is asked for it.
+pub record PutsStart (t : Table) (n : ℕ) (u : Table) : Type 0 where
+  pub new_entry : Entry
+  pub is_start : IsStart n new_entry
+  pub entries : u.entries ≡ set t.entries n new_entry
+  pub hints : u.hints ≡ set t.hints (hash_of (start_name n)) (n + 1)
+  pub counted : u.count ≡ t.count
 
-pub record Puttable (W H : List ℕ) (n : ℕ) : Type 0 where
-  pub words : length W ≡ 320
-  pub hints : length H ≡ 128
-  pub starting : n < start_count
+abbrev pub Puttable : Table → ℕ → Type 0
+Puttable t n = n < start_count
 
 -- The table of the starting operators, whatever the text.
 abbrev pub Starting : Table → Type 0
@@ -113,31 +117,39 @@ abbrev pub IsName : Bytes → Type 0
 IsName name = 1 ≤ length name
 
 -- What is said of a name at once, where anything is.
-abbrev pub Quickly : Found → Quick → Type 0
-Quickly f (Known.At k) = f ≡ At k
-Quickly f Known.Nothing = f ≡ Nothing
+abbrev pub Quickly : Option ℕ → Quick → Type 0
+Quickly f (Known.At k) = f ≡ Some k
+Quickly f Known.Nothing = f ≡ None
 Quickly f Known.Unknown = Unit {0}
 
+-- Roles with one in the place of the former one of its fixity.
+abbrev pub with_role : Fixity → Role → Roles → Roles
+with_role Infix c r = record { prefix = r.prefix; «infix» = c; postfix = r.postfix }
+with_role Prefix c r = record { prefix = c; «infix» = r.«infix»; postfix = r.postfix }
+with_role Postfix c r = record { prefix = r.prefix; «infix» = r.«infix»; postfix = c }
+
 -- What declaring a role asks: a name that stands in the text, what the table has of it, and room for it.
-pub record Declarable (text : Bytes) (t : Table) (found : Found) (start size hash fixity code : ℕ) : Type 0 where
+pub record Declarable (text : Bytes) (t : Table) (found : Option ℕ) (start size hash : ℕ) (fixity : Fixity) (role : Role) : Type 0 where
   pub sound : Sound text t
   pub in_text : start + size ≤ length text
   pub short : length text ≤ longest_text
   pub named : (1 ≤ size) × (size ≤ 63)
-  pub looked : found ≡ coded_find text t.words (take size (drop start text)) 0 t.count
+  pub looked : found ≡ coded_find text t.entries (take size (drop start text)) 0 t.count
   pub hashed : (hash ≡ hash_of (take size (drop start text))) × (hash < 128)
-  pub is_role : IsRole code × (0 < code)
-  pub room : found ≡ Nothing → t.count < most_operators
+  pub is_role : 0 < role.code
+  pub room : found ≡ None → t.count < most_operators
 
 -- What it gives: "A declared role replaces the mark's former role of that kind."
-pub record Declared (text : Bytes) (t : Table) (start size fixity code : ℕ) (u : Table) : Type 0 where
+pub record Declared (text : Bytes) (t : Table) (start size : ℕ) (fixity : Fixity) (role : Role) (u : Table) : Type 0 where
   pub sound : Sound text u
-  pub table : (r : Role) → role_of code ≡ some r → table_of text u ≡ G.declare_role (take size (drop start text)) (fixity_of fixity) r (table_of text t)
+  pub table :
+      (r : G.Role) → role_of role.code ≡ some r
+      → table_of text u ≡ G.declare_role (take size (drop start text)) (fixity_in fixity) r (table_of text t)
 
 -- What removing the roles of a name asks: what the table has of it.
-pub record Clearable (text : Bytes) (t : Table) (found : Found) (name : Bytes) : Type 0 where
+pub record Clearable (text : Bytes) (t : Table) (found : Option ℕ) (name : Bytes) : Type 0 where
   pub sound : Sound text t
-  pub looked : found ≡ coded_find text t.words name 0 t.count
+  pub looked : found ≡ coded_find text t.entries name 0 t.count
 
 -- What it gives: "`plain` removes all roles and does nothing to a word or sign that has none."
 pub record Cleared (text : Bytes) (t : Table) (name : Bytes) (u : Table) : Type 0 where

@@ -1,49 +1,55 @@
-// The operators in force, by value: five words to an operator, and hints where a name stands.
-ghost use Rattle.std.specs.Prelude.{◌≡◌, List, ℕ, ◌<◌};
+// The operators in force, by value: an entry to an operator, and hints where a name stands.
+ghost use Rattle.std.specs.Prelude.{◌≡◌, ℕ, ◌<◌, ◌≤◌};
+ghost use Rattle.grammar.specs.Declaration.{most_operators};
 ghost use Rattle.grammar.specs.Bytes.{Bytes, same};
-ghost use Rattle.grammar.specs.Operator.{lawful, every_operator, permitted};
-ghost use Rattle.starting_operators.specs.Starting.{start_number};
-ghost use Rattle.operators.specs.Entries.{word, name_start, name_size, name_in, name_at, Stands, coded_find, operators_from, table_by, hash_of};
-ghost use Rattle.operators.specs.Entries.{Sound, Puttable, started_words, started_hints, Starting, IsName, Quickly};
-ghost use Rattle.operators.specs.Entries.{Declarable, Declared, Clearable, Cleared};
+ghost use Rattle.std.specs.List.{list_all};
+ghost use Rattle.grammar.specs.Operator.{lawful, is_apart, every_operator, permitted};
+ghost use Rattle.rows.specs.InUse.{roles_by};
+ghost use Rattle.starting_operators.specs.Starting.{found_number};
+ghost use Rattle.operators.specs.Entries.{name_in, Stands, coded_find, table_of, hash_of, Sound, Puttable, PutsStart, Starting, IsName, Quickly};
+ghost use Rattle.operators.specs.Entries.{with_role, Declarable, Declared, Clearable, Cleared};
 
 use crate::conditions;
-use rows::role;
+use rows::fixity::Fixity;
+use rows::role::Role;
+use rows::roles::Roles;
 use starting_operators::number;
 
 pub const MAX_OPERATORS: usize = 64;
 
-// Where the name begins and how many bytes it has, and the numbers of its roles.
-pub const WORDS: usize = 5;
+// How many numbers there are for `hash`.
+const HASHES: usize = 128;
 
-const START: usize = 0;
-
-const SIZE: usize = 1;
-
-const PREFIX: usize = 2;
-
-const INFIX: usize = 3;
-
-const POSTFIX: usize = 4;
-
-// From this offset on a name is that of a starting operator, by its number.
+// From this offset on a name is that of a starting operator, by its number: one word for the place of a name, wherever its bytes are. Memory
+// is fixed, and a table is copied at each block: an enum or a reference in its place would make every entry larger.
 const NAMES: usize = 16384;
 
-// The latest operator whose name has a hash stands in `hints`, one more than its entry; 0 where there never was one.
-#[derive(Drop)]
+// An operator: where its name begins and how many bytes it has, and its roles.
+#[derive(Clone, Copy)]
+pub struct Entry {
+    pub start: u16,
+    pub size: u16,
+    pub roles: Roles,
+}
+
+// The operators are the first `count` entries: a table has a fixed size, as there is no heap. The latest operator whose name has a hash
+// stands in `hints`, one more than its entry; 0 where there never was one: one byte for a hint, since a table is copied at each block.
+#[derive(Clone, Copy)]
 pub struct Table {
-    pub words: [u16; 320],
-    pub hints: [u8; 128],
+    pub entries: [Entry; MAX_OPERATORS],
+    pub hints: [u8; HASHES],
     pub count: usize,
 }
 
+// What can be said of a name before it is compared with the names that were declared: three answers, so no `Option`.
 #[derive(Clone, Copy)]
-pub enum Found {
+pub enum Quick {
     At { entry: usize },
     Nothing,
+    Unknown,
 }
 
-// A number below 128 from the last two bytes of a name.
+// A number below `HASHES` from the last two bytes of a name: what is left of them by a division, but nothing here divides.
 pub fn hash(name: &[u8]) -> usize
     requires { IsName name.now }
     ensures { (result ≡ hash_of name.now) × (result < 128) }
@@ -53,162 +59,32 @@ pub fn hash(name: &[u8]) -> usize
     if 1 < n {
         h += (name[n - 2] as usize) * 10;
     }
-    if 2048 <= h {
-        h -= 2048;
-    }
-    if 1024 <= h {
-        h -= 1024;
-    }
-    if 512 <= h {
-        h -= 512;
-    }
-    if 256 <= h {
-        h -= 256;
-    }
-    if 128 <= h {
-        h -= 128;
-    }
-    h
+    h & (HASHES - 1)
 }
 
-// The word of an entry.
-pub fn prefix<'a>(words: &'a [u16; 320], entry: usize) -> u16
-    requires { entry < 64 }
-    ensures { result ≡ word 2 words.now entry }
-{
-    words[entry * WORDS + PREFIX]
-}
+impl Entry {
+    pub const NONE: Entry = Entry {
+        start: 0,
+        size: 0,
+        roles: Roles::NONE,
+    };
 
-pub fn infix<'a>(words: &'a [u16; 320], entry: usize) -> u16
-    requires { entry < 64 }
-    ensures { result ≡ word 3 words.now entry }
-{
-    words[entry * WORDS + INFIX]
-}
-
-pub fn postfix<'a>(words: &'a [u16; 320], entry: usize) -> u16
-    requires { entry < 64 }
-    ensures { result ≡ word 4 words.now entry }
-{
-    words[entry * WORDS + POSTFIX]
-}
-
-// Whether the name at an offset of the text, or of the starting operator with a number, is `name`, which has the number `number` among these.
-pub fn is_named(text: &[u8], start: usize, size: usize, name: &[u8], number: usize) -> bool
-    requires { Stands text.now start size × (number ≡ start_number name.now) }
-    ensures { result ≡ same name.now (name_in text.now start size) }
-{
-    if name.len() != size {
-        return false;
-    }
-    if start < NAMES {
-        let e = start + size;
-        return byte_strings::equal(name, &text[start..e]);
-    }
-    number == start - NAMES
-}
-
-// What can be said of a name before it is compared with the names that were declared.
-#[derive(Drop)]
-pub enum Quick {
-    At { entry: usize },
-    Nothing,
-    Unknown,
-}
-
-pub fn find_quickly<'a>(
-    words: &'a [u16; 320],
-    hints: &'a [u8; 128],
-    count: usize,
-    name: &[u8],
-) -> Quick
-    requires { ((text : Bytes) × Sound text (table_by words.now hints.now count)) × IsName name.now }
-    ensures { (text : Bytes) → Sound text (table_by words.now hints.now count)
-        → Quickly (coded_find text words.now name.now 0 count) result }
-{
-    // A starting operator has its number as its entry, if none before it was removed. No name has the offset of number COUNT.
-    let entry = number::number(name);
-    if entry < count {
-        if words[entry * WORDS + START] as usize == NAMES + entry {
-            return Quick::At { entry };
+    // Whether the name at its place in the text, or of the starting operator with its number, is `name`, which has the number `number` among
+    // these.
+    pub fn is_named(self, text: &[u8], name: &[u8], number: Option<usize>) -> bool
+        requires { Stands text.now self.start self.size × (number ≡ found_number name.now) }
+        ensures { result ≡ same name.now (name_in text.now self.start self.size) }
+    {
+        let start = self.start as usize;
+        let size = self.size as usize;
+        if name.len() != size {
+            return false;
         }
-    }
-    if hints[hash(name)] == 0 {
-        return Quick::Nothing;
-    }
-    Quick::Unknown
-}
-
-// Whether entry `i` has the name, which has the number `number` among those of starting operators.
-fn has_name<'a>(text: &[u8], words: &'a [u16; 320], i: usize, name: &[u8], number: usize) -> bool
-    requires { (i < 64) × Stands text.now (name_start words.now i) (name_size words.now i) × (number ≡ start_number name.now) }
-    ensures { result ≡ same name.now (name_at text.now words.now i) }
-{
-    let w = i * WORDS;
-    is_named(
-        text,
-        words[w + START] as usize,
-        words[w + SIZE] as usize,
-        name,
-        number,
-    )
-}
-
-// A hint as a number of the machine's own size.
-fn wide(hint: u8) -> usize
-    ensures { result ≡ hint }
-{
-    hint as usize
-}
-
-// The entry that has the name, of `count`: the one that the hint for its hash gives, or another.
-pub fn find<'a>(
-    text: &[u8],
-    words: &'a [u16; 320],
-    hints: &'a [u8; 128],
-    count: usize,
-    name: &[u8],
-) -> Found
-    requires { Sound text.now (table_by words.now hints.now count) × IsName name.now }
-    ensures { result ≡ coded_find text.now words.now name.now 0 count }
-{
-    let hint = wide(hints[hash(name)]);
-    if hint == 0 {
-        return Found::Nothing;
-    }
-    let number = number::number(name);
-    if hint <= count {
-        let entry = hint - 1;
-        if has_name(text, words, entry, name, number) {
-            return Found::At { entry };
+        if start < NAMES {
+            return name == &text[start..start + size];
         }
+        number == Some(start - NAMES)
     }
-    let mut i: usize = 0;
-    while i < count {
-        if has_name(text, words, i, name, number) {
-            return Found::At { entry: i };
-        }
-        i += 1;
-    }
-    Found::Nothing
-}
-
-// The entry of the starting operator with a number, where nothing stands yet, and the hint for its hash.
-#[tactic(auto, using(starting_operators::proofs::Numbers::start_few))]
-fn put(words: &mut [u16], hints: &mut [u8], number: usize)
-    requires { Puttable words.old hints.old number }
-    ensures { (words.new ≡ started_words words.old number)
-        × (hints.new ≡ started_hints hints.old number) }
-{
-    let o = number::operator(number);
-    let written = o.name;
-    let n = o.size;
-    let w = number * WORDS;
-    words[w + START] = (NAMES + number) as u16;
-    words[w + SIZE] = n as u16;
-    words[w + PREFIX] = o.prefix;
-    words[w + INFIX] = o.infix;
-    hints[hash(&written[0..n])] = (number + 1) as u8;
 }
 
 impl Table {
@@ -216,107 +92,160 @@ impl Table {
     pub fn new() -> Table
         ensures { Starting result }
     {
-        let mut words = [0u16; 320];
-        let mut hints = [0u8; 128];
-        let mut k: usize = 0;
-        while k < number::COUNT {
-            put(&mut words, &mut hints, k);
-            k += 1;
-        }
-        Table {
-            words,
-            hints,
+        let mut table = Table {
+            entries: [Entry::NONE; MAX_OPERATORS],
+            hints: [0; HASHES],
             count: number::COUNT,
+        };
+        for k in 0..number::COUNT {
+            table.put(k);
         }
+        table
+    }
+
+    // The entry of the starting operator with a number, where nothing stands yet, and the hint for its hash.
+    #[tactic(auto, using(starting_operators::proofs::Numbers::start_few))]
+    fn put(&mut self, number: usize)
+        requires { Puttable self.old number }
+        ensures { PutsStart self.old number self.new }
+    {
+        let operator = number::operator(number);
+        self.entries[number] = Entry {
+            start: (NAMES + number) as u16,
+            size: operator.name.len() as u16,
+            roles: operator.roles,
+        };
+        self.hints[hash(operator.name)] = (number + 1) as u8;
+    }
+
+    // What can be said of a name at once.
+    pub fn find_quickly(&self, name: &[u8]) -> Quick
+        requires { ((text : Bytes) × Sound text self.now) × IsName name.now }
+        ensures { (text : Bytes) → Sound text self.now → Quickly (coded_find text self.now.entries name.now 0 self.now.count) result }
+    {
+        // A starting operator has its number as its entry, if none before it was removed.
+        if let Some(entry) = number::number(name) {
+            if entry < self.count {
+                if self.entries[entry].start as usize == NAMES + entry {
+                    return Quick::At { entry };
+                }
+            }
+        }
+        if self.hints[hash(name)] == 0 {
+            return Quick::Nothing;
+        }
+        Quick::Unknown
+    }
+
+    // The entry that has the name: the one that the hint for its hash gives, or another.
+    pub fn find(&self, text: &[u8], name: &[u8]) -> Option<usize>
+        requires { Sound text.now self.now × IsName name.now }
+        ensures { result ≡ coded_find text.now self.now.entries name.now 0 self.now.count }
+    {
+        let hint = self.hints[hash(name)] as usize;
+        if hint == 0 {
+            return None;
+        }
+        let number = number::number(name);
+        if hint <= self.count {
+            let entry = hint - 1;
+            if self.entries[entry].is_named(text, name, number) {
+                return Some(entry);
+            }
+        }
+        for i in 0..self.count {
+            if self.entries[i].is_named(text, name, number) {
+                return Some(i);
+            }
+        }
+        None
     }
 
     // A declared role replaces the operator's former role of that fixity. `found` says where the table has the name.
     pub fn declare(
         mut self,
-        found: Found,
+        found: Option<usize>,
         start: usize,
         size: usize,
         hash: usize,
-        fixity: u8,
-        role: u16,
+        fixity: Fixity,
+        role: Role,
     ) -> Table
         requires { (text : Bytes) × Declarable text self found start size hash fixity role }
         ensures { (text : Bytes) → Declarable text self found start size hash fixity role → Declared text self start size fixity role result }
     {
         let count = self.count;
-        let mut w = count * WORDS;
-        match found {
-            Found::At { entry } => {
-                w = entry * WORDS;
-            }
-            Found::Nothing => {
-                self.words[w + START] = start as u16;
-                self.words[w + SIZE] = size as u16;
-                self.words[w + PREFIX] = 0;
-                self.words[w + INFIX] = 0;
-                self.words[w + POSTFIX] = 0;
+        let entry = match found {
+            Some(entry) => entry,
+            None => {
+                self.entries[count] = Entry {
+                    start: start as u16,
+                    size: size as u16,
+                    roles: Roles::NONE,
+                };
                 self.count = count + 1;
                 self.hints[hash] = (count + 1) as u8;
+                count
             }
-        }
-        if fixity == role::INFIX {
-            self.words[w + INFIX] = role;
-        } else if fixity == role::PREFIX {
-            self.words[w + PREFIX] = role;
-        } else {
-            self.words[w + POSTFIX] = role;
-        }
+        };
+        self.entries[entry].roles = with_role(self.entries[entry].roles, fixity, role);
         self
     }
 
     // All roles of a name are removed, where the table has it: the entries behind it move one place down.
-    pub fn clear(mut self, found: Found) -> Table
+    pub fn clear(mut self, found: Option<usize>) -> Table
         requires { (text name : Bytes) × Clearable text self found name }
         ensures { (text name : Bytes) → Clearable text self found name → Cleared text self name result }
     {
-        match found {
-            Found::At { entry } => {
-                let last = self.count - 1;
-                let mut k = entry * WORDS;
-                let end = last * WORDS;
-                while k < end {
-                    self.words[k] = self.words[k + WORDS];
-                    k += 1;
-                }
-                self.count = last;
+        if let Some(entry) = found {
+            let last = self.count - 1;
+            // `copy_within` would say the same, but the archive would need `memmove`, and its header names `memcpy` and `memset` alone.
+            for k in entry..last {
+                self.entries[k] = self.entries[k + 1];
             }
-            Found::Nothing => {}
+            self.count = last;
         }
         self
     }
+
+    // The four conditions of all operators.
+    pub fn all_lawful(&self) -> bool
+        requires { self.now.count ≤ most_operators }
+        ensures { (text : Bytes) → result ≡ every_operator lawful (table_of text self.now) }
+    {
+        are_lawful(&self.entries[..self.count])
+    }
+
+    // The overloading rule: where an operator has both an infix and a postfix role, the four conditions of all.
+    pub fn is_permitted(&self) -> bool
+        requires { self.now.count ≤ most_operators }
+        ensures { (text : Bytes) → result ≡ permitted (table_of text self.now) }
+    {
+        are_apart(&self.entries[..self.count]) || self.all_lawful()
+    }
 }
 
-// The four conditions of `count` operators.
-pub fn all_lawful<'a>(words: &'a [u16; 320], count: usize) -> bool
-    requires { (text H : List ℕ) × Sound text (table_by words.now H count) }
-    ensures { (text : Bytes) → result ≡ every_operator lawful (operators_from text words.now 0 count) }
+// Roles with one in the place of the former one of its fixity.
+fn with_role(mut roles: Roles, fixity: Fixity, role: Role) -> Roles
+    ensures { result ≡ with_role fixity role roles }
 {
-    let mut i: usize = 0;
-    while i < count {
-        if !conditions::is_lawful(prefix(words, i), infix(words, i), postfix(words, i)) {
-            return false;
-        }
-        i += 1;
+    match fixity {
+        Fixity::Infix => roles.infix = role,
+        Fixity::Prefix => roles.prefix = role,
+        Fixity::Postfix => roles.postfix = role,
     }
-    true
+    roles
 }
 
-// The overloading rule for `count` operators: where one of them has both an infix and a postfix role, the four conditions of all.
-pub fn is_permitted<'a>(words: &'a [u16; 320], count: usize) -> bool
-    requires { (text H : List ℕ) × Sound text (table_by words.now H count) }
-    ensures { (text : Bytes) → result ≡ permitted (operators_from text words.now 0 count) }
+// The four conditions of some operators, and whether none of them has both an infix and a postfix role.
+fn are_lawful(operators: &[Entry]) -> bool
+    ensures { result ≡ list_all (λ e. lawful (roles_by e.roles)) operators.now }
 {
-    let mut k: usize = 0;
-    while k < count {
-        if !conditions::is_apart(infix(words, k), postfix(words, k)) {
-            return all_lawful(words, count);
-        }
-        k += 1;
-    }
-    true
+    operators.iter().all(|e| conditions::is_lawful(e.roles))
+}
+
+fn are_apart(operators: &[Entry]) -> bool
+    ensures { result ≡ list_all (λ e. is_apart (roles_by e.roles)) operators.now }
+{
+    operators.iter().all(|e| conditions::is_apart(e.roles))
 }

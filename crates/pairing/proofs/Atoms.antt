@@ -1,18 +1,18 @@
 -- A text without tokens of structure passes checks 6 and 7, and its tokens are paired as they stand.
 use mathlib.Core.Path.{◌≡◌, refl, ◌∙◌}
-use mathlib.Core.List.{List, []}
+use mathlib.Core.List.{[]}
 use Prim.Native.Nat.{ℕ, zero, suc, ◌+◌, ◌≤◌, ◌<◌}
 use native.Mathlib.Omega.{arith}
 use Rattle.grammar.specs.Outcome.{passed}
 use Rattle.grammar.specs.Nesting.{stays, nesting}
 use Rattle.grammar.specs.Coded.{token_of}
 use Rattle.grammar.proofs.Nested.{moved, nesting_step}
-use Rattle.rows.specs.Fields.{kind}
+use Rattle.rows.specs.Fields.{TokenRow, kind}
 use Rattle.rows.specs.Tokens.{Paired, done, single, IsAtomKind}
 use Rattle.pairing.specs.Pairing.{tokens_by}
 use Rattle.pairing.proofs.Moves.{atom_kind-stays}
 
-module _ (K : List ℕ) where
+module _ (K : TokenRow) where
   -- `n` tokens from number `i` on.
   atoms :
       (n i : ℕ) → ((j : ℕ) → i ≤ j → j < i + n → IsAtomKind (kind K j))

@@ -15,7 +15,7 @@ use Rattle.grammar.specs.Nesting.{Move, stays, broken, enters, becomes, leaves, 
 use Rattle.grammar.specs.Coded.{kind_of, token_of}
 use Rattle.grammar.specs.Answer.{tokens_of}
 use Rattle.grammar.proofs.Offsets.{structure_coded}
-use Rattle.rows.specs.Fields.{kind}
+use Rattle.rows.specs.Fields.{TokenRow, kind}
 use Rattle.rows.specs.Tokens.{kind_at, Stored}
 use Rattle.pairing.specs.Pairing.{tokens_by}
 
@@ -42,7 +42,7 @@ nesting_alike os i t u ts us leaves d e h = rw (d, e, nesting) (h (close_innermo
 
 -- The tokens `ps` of which the row has the kinds, from entry `k` on.
 by_kinds :
-    (K : List ℕ) (ps : List Placed) (k : ℕ) → ((j : ℕ) → j < length ps → kind K (k + j) ≡ get_or (map kind_at ps) j 0)
+    (K : TokenRow) (ps : List Placed) (k : ℕ) → ((j : ℕ) → j < length ps → kind K (k + j) ≡ get_or (map kind_at ps) j 0)
     → (os : List Open) (i : ℕ) → nesting os i (tokens_by K k (length ps)) ≡ nesting os i (tokens_of ps)
 unfolding tokens_by tokens_of
 by_kinds K [] k h os i = refl
@@ -52,6 +52,6 @@ by_kinds K (p ∷ ps) k h os i =
     (λ qs. by_kinds K ps (suc k) (λ j l. ap (kind K) (omega arith) ∙ h (suc j) (omega arith)) qs (suc i))
 
 pub nesting_by_kinds :
-    (text : Bytes) (ps : List Placed) (K : List ℕ) → Stored text ps K
+    (text : Bytes) (ps : List Placed) (K : TokenRow) → Stored text ps K
     → nesting [] 0 (tokens_by K 0 (length ps)) ≡ nesting [] 0 (tokens_of ps)
 nesting_by_kinds text ps K v = by_kinds K ps 0 (λ j l. ap (kind K) (omega arith) ∙ v.kinds j l) [] 0

@@ -5,141 +5,124 @@ ghost use Rattle.std.specs.Prelude.{◌≡◌, List, [], ◌<◌};
 ghost use Rattle.grammar.specs.Open.{Open};
 ghost use Rattle.grammar.specs.Nesting.{move};
 ghost use Rattle.grammar.specs.Coded.{token_of};
+ghost use Rattle.rows.specs.Kinds.{kind_code};
 ghost use Rattle.rows.specs.Fields.{Holds};
-ghost use Rattle.pairing.specs.Pairing.{open_code, coded_move, Kinded, Pairing};
+ghost use Rattle.pairing.specs.Pairing.{innermost_of, coded_move, Pairing};
 
-use rows::{kinds, tokens as row};
+use refusals::{Refusal, Refused};
+use rows::token::{Kind, Token};
 
 pub const MAX_DEPTH: usize = 32;
 
-// Refusals 6 and 7.
-pub const UNPAIRED: u8 = 6;
-
-pub const TOO_DEEP: u8 = 7;
+// Places for the pairs that are open, by depth. At depth 0 nothing is.
+const PLACES: usize = 33;
 
 // What is open innermost.
-pub const NOTHING: u8 = 0;
-
-pub const BRACKET: u8 = 1;
-
-pub const DECLARATIONS: u8 = 2;
-
-pub const BODY: u8 = 3;
+#[derive(Clone, Copy, PartialEq, Eq)]
+pub enum Innermost {
+    Nothing,
+    Bracket,
+    Declarations,
+    Body,
+}
 
 // What a token does there.
 #[derive(Drop)]
 pub enum Move {
     Stay,
     Break,
-    Open { pair: u8 },
+    Open { pair: Innermost },
     Turn,
     Close,
 }
 
-// Whether there are blocks; or a refusal and its token.
-#[derive(Drop)]
-pub enum Paired {
-    Passed { blocks: bool },
-    Refused { number: u8, at: usize },
+// A pair that is open, and its last opener: of a body the block's `in`.
+#[derive(Clone, Copy)]
+pub struct OpenPair {
+    pub pair: Innermost,
+    pub opener: u16,
 }
 
 // The move of a token of structure.
-pub fn move_of(innermost: u8, kind: u16) -> Move
-    requires { 3 < kind }
-    ensures { (os : List Open) → innermost ≡ open_code os → result ≡ coded_move (move os (token_of kind [])) }
+#[tactic(auto, using(crate::proofs::Moves::moves), unfolding(crate::proofs::Moves::move_by))]
+pub fn move_of(innermost: Innermost, kind: Kind) -> Move
+    requires { 3 < kind_code kind }
+    ensures { (os : List Open) → innermost ≡ innermost_of os → result ≡ coded_move (move os (token_of (kind_code kind) [])) }
 {
-    match kind {
-        kinds::OPENING => {
-            if innermost == DECLARATIONS {
-                return Move::Break;
-            }
-            Move::Open { pair: BRACKET }
-        }
-        kinds::CLOSING => {
-            if innermost == BRACKET {
-                return Move::Close;
-            }
-            Move::Break
-        }
-        kinds::SEMICOLON => {
-            if innermost == DECLARATIONS {
-                return Move::Stay;
-            }
-            Move::Break
-        }
-        kinds::LET => {
-            if innermost == DECLARATIONS {
-                return Move::Break;
-            }
-            Move::Open { pair: DECLARATIONS }
-        }
-        kinds::IN => {
-            if innermost == DECLARATIONS {
-                return Move::Turn;
-            }
-            Move::Break
-        }
-        _ => {
-            if innermost == BODY {
-                return Move::Close;
-            }
-            Move::Break
-        }
+    match (kind, innermost) {
+        (Kind::Semicolon, Innermost::Declarations) => Move::Stay,
+        (Kind::In, Innermost::Declarations) => Move::Turn,
+        (_, Innermost::Declarations) => Move::Break,
+        (Kind::Opening, _) => Move::Open {
+            pair: Innermost::Bracket,
+        },
+        (Kind::Let, _) => Move::Open {
+            pair: Innermost::Declarations,
+        },
+        (Kind::Closing, Innermost::Bracket) => Move::Close,
+        (Kind::End, Innermost::Body) => Move::Close,
+        _ => Move::Break,
     }
 }
 
-// Checks 6 and 7 on `count` tokens, and the closers. The pairs that are open stand in `pairs` and `openers` from 1 to `depth`.
-pub fn pair_up(tokens: &mut [u16], count: usize) -> Paired
-    requires { Holds 4 tokens.old count × Kinded tokens.old count }
+// Checks 6 and 7 on the first `count` tokens of a row, and the closers; whether there are blocks. The pairs that are open stand in `pairs`
+// from 1 to `depth`: a fixed array with a length beside it, since there is no heap.
+pub fn pair_up(tokens: &mut [Token], count: usize) -> Result<bool, Refused>
+    requires { Holds tokens.old count }
     ensures { Pairing tokens.old count tokens.new result }
 {
-    let mut pairs = [NOTHING; 33];
-    let mut openers = [0u16; 33];
+    let mut pairs = [OpenPair {
+        pair: Innermost::Nothing,
+        opener: 0,
+    }; PLACES];
     let mut blocks = false;
     let mut depth: usize = 0;
-    let mut next: usize = 0;
-    while next < count {
-        let i = next;
-        next += 1;
-        let kind = row::kind(tokens, i);
-        if kinds::QUOTED < kind {
-            match move_of(pairs[depth], kind) {
+    for i in 0..count {
+        let kind = tokens[i].kind;
+        if !kind.is_atom() {
+            match move_of(pairs[depth].pair, kind) {
                 Move::Stay => {}
                 Move::Break => {
-                    return Paired::Refused {
-                        number: UNPAIRED,
+                    return Err(Refused {
+                        refusal: Refusal::Unpaired,
                         at: i,
-                    };
+                    });
                 }
                 Move::Open { pair } => {
                     if MAX_DEPTH <= depth {
-                        return Paired::Refused {
-                            number: TOO_DEEP,
+                        return Err(Refused {
+                            refusal: Refusal::TooDeep,
                             at: i,
-                        };
+                        });
                     }
                     depth += 1;
-                    pairs[depth] = pair;
-                    openers[depth] = i as u16;
+                    pairs[depth] = OpenPair {
+                        pair,
+                        opener: i as u16,
+                    };
                 }
                 Move::Turn => {
-                    row::set_closer(tokens, openers[depth] as usize, i);
+                    let opener = pairs[depth].opener as usize;
+                    tokens[opener].closer = i as u16;
                     blocks = true;
-                    pairs[depth] = BODY;
-                    openers[depth] = i as u16;
+                    pairs[depth] = OpenPair {
+                        pair: Innermost::Body,
+                        opener: i as u16,
+                    };
                 }
                 Move::Close => {
-                    row::set_closer(tokens, openers[depth] as usize, i);
+                    let opener = pairs[depth].opener as usize;
+                    tokens[opener].closer = i as u16;
                     depth -= 1;
                 }
             }
         }
     }
     if 0 < depth {
-        return Paired::Refused {
-            number: UNPAIRED,
+        return Err(Refused {
+            refusal: Refusal::Unpaired,
             at: count,
-        };
+        });
     }
-    Paired::Passed { blocks }
+    Ok(blocks)
 }

@@ -1,15 +1,18 @@
 -- What the services hand out and leave in the lent buffer, by document 01's answer and the definitions of the services.
-use Rattle.std.specs.Prelude.{◌≡◌, true, false, List, [], ℕ, ◌+◌, ◌*◌, leb, length}
+use Rattle.std.specs.Prelude.{◌≡◌, true, false, List, [], ℕ, ◌+◌, ◌*◌, leb, length, Ok, Err}
 use Rattle.grammar.specs.Bytes.{Bytes}
 use Rattle.grammar.specs.Nodes.{words_per_node}
 use Rattle.grammar.specs.Decoding.{part_of}
 use Rattle.grammar.specs.Answer as G
-use Rattle.serving.specs.declared.Served.{Served}
+use Rattle.std.specs.declared.result.Result.{Result}
+use Rattle.refusals.specs.declared.Refused.{Refused}
+use Rattle.refusals.specs.Numbers.{number_of}
 use Rattle.reader.specs.declared.Answer.{Answer}
 
 -- What is handed out of what a service answers.
-unfoldable pub answer_from : Served → Answer
-answer_from s = record { number = s.number; offset = s.offset; count = s.count }
+unfoldable pub answer_from : Result ℕ Refused → Answer
+answer_from (Ok c) = record { number = 0; offset = 0; count = c }
+answer_from (Err e) = record { number = number_of e.refusal; offset = e.at; count = 0 }
 
 -- "The answer is (number, place, count)." With the contents of the lent buffer afterwards.
 unfoldable pub result_of : Answer → List ℕ → G.Result

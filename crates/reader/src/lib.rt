@@ -6,7 +6,8 @@ ghost use Rattle.std.specs.Prelude.{◌≡◌};
 ghost use Rattle.reader.specs.Answered.{answer_from, written, Reads, Canonicalizes, Locates, node_written, WritesName};
 
 use nodes::node;
-use serving::{Served, Service};
+use refusals::{Refusal, Refused};
+use serving::Service;
 
 // Document 01's answer: number 0 with the count of what was written, or the number and the place of a refusal.
 #[repr(C)]
@@ -17,14 +18,23 @@ pub struct Answer {
     pub count: usize,
 }
 
-// What is handed out of what a service answers.
-fn handed_out(served: Served) -> Answer
-    ensures { result ≡ answer_from served }
-{
-    Answer {
-        number: served.number,
-        offset: served.offset,
-        count: served.count,
+impl From<Result<usize, Refused>> for Answer {
+    ghost from_gives = { λ r a. a ≡ answer_from r };
+
+    #[tactic(auto, unfolding(crate::specs::Answered::answer_from))]
+    fn from(outcome: Result<usize, Refused>) -> Answer {
+        match outcome {
+            Ok(count) => Answer {
+                number: 0,
+                offset: 0,
+                count,
+            },
+            Err(refused) => Answer {
+                number: refused.refusal.number(),
+                offset: refused.at,
+                count: 0,
+            },
+        }
     }
 }
 
@@ -33,7 +43,7 @@ pub fn read(text: &[u8], nodes: &mut [u32]) -> Answer
     ensures { Reads text.now nodes.old nodes.new result }
 {
     let mut buffer = [0u8; 0];
-    handed_out(serving::serve(text, Service::Read, nodes, &mut buffer))
+    serving::serve(text, Service::Read, nodes, &mut buffer).into()
 }
 
 // Writes the canonical text of a text over the front of a lent buffer. A refusal changes no byte.
@@ -41,7 +51,7 @@ pub fn canonicalize(text: &[u8], buffer: &mut [u8]) -> Answer
     ensures { Canonicalizes text.now buffer.old buffer.new result }
 {
     let mut nodes = [0u32; 0];
-    handed_out(serving::serve(text, Service::Canonicalize, &mut nodes, buffer))
+    serving::serve(text, Service::Canonicalize, &mut nodes, buffer).into()
 }
 
 // Where a text is refused: 0 for a text that is read, else the number and place of the refusal; of 11 the place at which the first span without
@@ -51,20 +61,20 @@ pub fn locate(text: &[u8]) -> Answer
 {
     let mut nodes = [0u32; 0];
     let mut buffer = [0u8; 0];
-    handed_out(serving::serve(text, Service::Locate, &mut nodes, &mut buffer))
+    serving::serve(text, Service::Locate, &mut nodes, &mut buffer).into()
 }
 
 // The part of the text that node number `i` gives: a name as written, without the outer quotes; a number's digits; an operator. Nothing if
-// the table does not have the whole node.
+// the table does not have the whole node: an empty part, as `node_written` has it, and no `Option`.
 pub fn as_written<'a>(text: &'a [u8], nodes: &[u32], i: usize) -> &'a [u8]
     ensures { result.now ≡ node_written text.now nodes.now i }
 {
     if nodes.len() <= i {
-        return byte_strings::cut(text, 0, 0);
+        return &text[..0];
     }
     let w = i * node::WORDS;
     if nodes.len() < w + node::WORDS {
-        return byte_strings::cut(text, 0, 0);
+        return &text[..0];
     }
     let at = nodes[w + 3] as usize;
     let n = nodes[w + 4] as usize;
@@ -79,16 +89,12 @@ pub fn write_name(text: &[u8], nodes: &[u32], i: usize, buffer: &mut [u8]) -> An
     let written = as_written(text, nodes, i);
     let count = names::count(written);
     if buffer.len() < count {
-        return Answer {
-            number: serving::BUFFER_TOO_SHORT,
-            offset: 0,
-            count: 0,
+        let too_short = Refused {
+            refusal: Refusal::BufferTooShort,
+            at: 0,
         };
+        return Err(too_short).into();
     }
     names::write(written, buffer);
-    Answer {
-        number: 0,
-        offset: 0,
-        count,
-    }
+    Ok(count).into()
 }

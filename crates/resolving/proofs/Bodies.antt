@@ -1,12 +1,13 @@
 -- What a block answers: the refusal of its declarations, or of check 10 at its `in`, or what its body answers under the operators that they
 -- leave in force.
-use mathlib.Core.Path.{◌≡◌, refl, sym, ap, subst, ◌∙◌}
+use mathlib.Core.Path.{◌≡◌, refl, sym, ap, ap₂, subst, ◌∙◌}
 use mathlib.Core.Bool.{Bool, true, false}
 use mathlib.Core.List.{List}
 use Prim.Native.Nat.{ℕ, suc, ◌+◌, ◌-◌, ◌<◌}
 use native.Mathlib.Omega.{arith}
 use native.Mathlib.Numerals.{add-one}
 use lib.ListN.{length}
+use Rattle.std.specs.Prelude.{Result, Ok, Err}
 use Rattle.grammar.specs.Bytes.{Bytes}
 use Rattle.grammar.specs.Token.{Token}
 use Rattle.grammar.specs.Outcome.{Outcome, refused, passed, and_then}
@@ -21,26 +22,34 @@ use Rattle.rows.specs.Agreeing.{KeptOutside, Agrees}
 use Rattle.grammar.proofs.Logic.{impossible}
 use Rattle.rows.proofs.Ranges.{length-range}
 use Rattle.rows.proofs.Noting.{kept_none}
-use Rattle.operators.specs.Entries.{table_by, table_of, Sound}
+use Rattle.refusals.specs.declared.Refused.{Refused}
+use Rattle.refusals.specs.Numbers.{number_of, IsRefused, Refuses}
+use Rattle.operators.specs.Entries.{table_of, Sound}
 use Rattle.operators.specs.declared.table.Table.{Table}
-use Rattle.operators.proofs.Lookups.{sound_bounded}
+use Rattle.operators.proofs.Lookups.{table_bounded}
 use Rattle.declaring.specs.Declaring.{part_of, Declares}
-use Rattle.declaring.specs.declared.Declared.{Declared}
-use Rattle.declaring.specs.declared.Declared.TheVariants as D
 use Rattle.declaring.proofs.PartAnswers.{part_refused, part_passed}
-use Rattle.resolving.specs.declared.Resolved.{Resolved}
-use Rattle.resolving.specs.declared.Resolved.TheVariants.{Passed, Refused}
-use Rattle.resolving.specs.declared.Entered.TheVariants as In
+use Rattle.rows.specs.Fields.{TokenRow, NoteRow}
 use Rattle.resolving.specs.Resolving.{Ranged, PermittedTable, Resolves, Resolving, block_entered, Enters}
 
+-- The outcome that the code answers with a refusal.
+abbrev pub refused_by : {A : Type 0} → Refused → Outcome A
+refused_by f = refused (number_of f.refusal) f.at
+
+pub refusal_is : {A : Type 0} {n p : ℕ} {f : Refused} → IsRefused n p f → ◌≡◌ {A = Outcome A} (refused n p) (refused_by f)
+refusal_is h = ap₂ refused (sym h.numbered) (sym h.placed)
+
+pub refused_so : (f : Refused) → IsRefused (number_of f.refusal) f.at f
+refused_so f = record { numbered = refl; placed = refl }
+
 -- What a block's declarations and its body answer, with its `let` at `i`, its `in` at `c` and its `end` at `e`.
-abbrev pub BlockResolves : Bytes → List ℕ → List ℕ → G.Table → ℕ → ℕ → ℕ → Outcome (Unit {0}) → Resolved → Type 0
-BlockResolves text K R T i c e (refused n p) r = r ≡ Refused n p
+abbrev pub BlockResolves : Bytes → TokenRow → NoteRow → G.Table → ℕ → ℕ → ℕ → Outcome (Unit {0}) → Result (Unit {0}) Refused → Type 0
+BlockResolves text K R T i c e (refused n p) r = Refuses n p r
 BlockResolves text K R T i c e (passed u) r =
     let ds = range text K (suc i) c in
-    (r ≡ Passed) × (all_tokens (declarations ds) ≡ ds) × Bounded (body_table T ds) × Agrees text K R (body_table T ds) (suc c) e
+    (r ≡ Ok tt) × (all_tokens (declarations ds) ≡ ds) × Bounded (body_table T ds) × Agrees text K R (body_table T ds) (suc c) e
 
-pub record BlockResolving (text : Bytes) (K : List ℕ) (T : G.Table) (i c e : ℕ) (R R' : List ℕ) (r : Resolved) : Type 0 where
+pub record BlockResolving (text : Bytes) (K : TokenRow) (T : G.Table) (i c e : ℕ) (R R' : NoteRow) (r : Result (Unit {0}) Refused) : Type 0 where
   pub answer :
       (k : ℕ) → e - suc c < k
       → BlockResolves text K R' T i c e
@@ -50,24 +59,20 @@ pub record BlockResolving (text : Bytes) (K : List ℕ) (T : G.Table) (i c e : �
 
 -- The body of a block, as the code passes it on.
 pub body_ranged :
-    {text : Bytes} {K R : List ℕ} {c e b d : ℕ} → b ≡ c → d ≡ e → Ranged text K R (suc c) e → Ranged text K R (b + 1) d
+    {text : Bytes} {K : TokenRow} {R : NoteRow} {c e b d : ℕ} → b ≡ c → d ≡ e → Ranged text K R (suc c) e → Ranged text K R (b + 1) d
 body_ranged {c = c} x y g = rw (x, y, add-one c) g
 
 -- What an answer of the code says of the declarations with check 10.
-module _ (text : Bytes) (W H : List ℕ) where
-  pub entered_refused : (o : Outcome G.Table) (n p : ℕ) → Enters text o W H (In.Refused n p) → o ≡ refused n p
-  entered_refused (refused m q) n p h = cc
-  entered_refused (passed U) n p h = impossible (cc h.1)
+module _ (text : Bytes) (u : Table) where
+  pub entered_refused : (o : Outcome G.Table) (f : Refused) → Enters text o u (Err f) → o ≡ refused_by f
+  entered_refused (refused n p) f h = refusal_is h
+  entered_refused (passed U) f h = impossible (cc h.0)
 
-  pub entered_passed :
-      (o : Outcome G.Table) (n : ℕ) → Enters text o W H (In.Passed n)
-      → (o ≡ passed (table_of text (table_by W H n))) × PermittedTable text (table_by W H n)
-  entered_passed (refused m q) n h = impossible cc
-  entered_passed (passed U) n (k, e, table, u) =
-      let x : k ≡ n = cc in
-      rw (← x) (ap passed (sym u), table)
+  pub entered_passed : (o : Outcome G.Table) → Enters text o u (Ok tt) → (o ≡ passed (table_of text u)) × PermittedTable text u
+  entered_passed (refused n p) h = absurd h
+  entered_passed (passed U) h = (ap passed (sym h.2), h.1)
 
-module _ (text : Bytes) (K : List ℕ) (i c : ℕ) (t : Table) where
+module _ (text : Bytes) (K : TokenRow) (i c : ℕ) (t : Table) where
   abbrev ds : List Token
   ds = range text K (suc i) c
 
@@ -91,19 +96,15 @@ module _ (text : Bytes) (K : List ℕ) (i c : ℕ) (t : Table) where
     pub checked : answer ≡ checked_at c (table_of text u)
 
   -- What the code answers of the declarations alone, and so the checks.
-  module _ (l : i < c) (W H : List ℕ) (r : Declared) (d : Declares text t (part_of text K i c outer) W H r) where
-    says : (x : Declared) → r ≡ x → Declares text t (part_of text K i c outer) W H x
-    says x e = subst (Declares text t (part_of text K i c outer) W H) e d
-
-    pub answer_refused : (n p : ℕ) → r ≡ D.Refused n p → answer ≡ refused n p
+  module _ (l : i < c) (u : Table) where
+    pub answer_refused : (f : Refused) → Declares text t (part_of text K i c outer) u (Err f) → answer ≡ refused_by f
     unfolding and_then
-    answer_refused n p e =
-        answer_checks l ∙ ap (λ o. and_then o (checked_at c)) (part_refused text t W H (part_of text K i c outer) n p (says _ e))
+    answer_refused f d = answer_checks l ∙ ap (λ o. and_then o (checked_at c)) (part_refused text t u (part_of text K i c outer) f d)
 
-    pub leaving : (count : ℕ) (replaced : Bool) → r ≡ D.Passed count replaced → Leaving (table_by W H count) replaced
+    pub leaving : (replaced : Bool) → Declares text t (part_of text K i c outer) u (Ok replaced) → Leaving u replaced
     unfolding and_then
-    leaving count replaced e =
-        let (passes, leaves) = part_passed text t W H (part_of text K i c outer) count replaced (says _ e) in
+    leaving replaced d =
+        let (passes, leaves) = part_passed text t u (part_of text K i c outer) replaced d in
         record {
           sound = leaves.sound;
           kept = leaves.kept;
@@ -120,21 +121,19 @@ module _ (text : Bytes) (K : List ℕ) (i c : ℕ) (t : Table) where
     answer_broken z = leaves.checked ∙ rw (z, checked_at)
 
   -- And so what the code answers of the declarations with check 10.
-  pub enters_refused : (W H : List ℕ) (n p : ℕ) → answer ≡ refused n p → Enters text answer W H (In.Refused n p)
-  enters_refused W H n p h = rw h refl
+  pub enters_refused : (u : Table) (f : Refused) → answer ≡ refused_by f → Enters text answer u (Err f)
+  enters_refused u f h = rw h (refused_so f)
 
   pub enters_passed :
-      (W H : List ℕ) (count : ℕ) {replaced : Bool} → Leaving (table_by W H count) replaced → permitted (table_of text (table_by W H count)) ≡ true
-      → Enters text answer W H (In.Passed count)
-  enters_passed W H count leaves z =
-      rw (answer_kept leaves z) (count, refl, record { sound = leaves.sound; kept = z }, refl)
+      (u : Table) {replaced : Bool} → Leaving u replaced → permitted (table_of text u) ≡ true → Enters text answer u (Ok tt)
+  enters_passed u leaves z = rw (answer_kept leaves z) (refl, record { sound = leaves.sound; kept = z }, refl)
 
   -- And so the block.
-  pub block_refused : (e : ℕ) (R : List ℕ) (n p : ℕ) → answer ≡ refused n p → BlockResolving text K outer i c e R R (Refused n p)
+  pub block_refused : (e : ℕ) (R : NoteRow) (f : Refused) → answer ≡ refused_by f → BlockResolving text K outer i c e R R (Err f)
   unfolding and_then
-  block_refused e R n p h = record { answer = λ k l. rw h; kept = kept_none R (suc c) e }
+  block_refused e R f h = record { answer = λ k l. rw h (refused_so f); kept = kept_none R (suc c) e }
 
-  module _ (u : Table) (sound : Sound text u) (h : answer ≡ passed (table_of text u)) (e : ℕ) (R R' : List ℕ) (r : Resolved) where
+  module _ (u : Table) (h : answer ≡ passed (table_of text u)) (e : ℕ) (R R' : NoteRow) (r : Result (Unit {0}) Refused) where
     body_table_lem : table_of text u ≡ body_table outer ds
     unfolding body_table
     body_table_lem = (enter_sound outer (suc i) ds (table_of text u) h).2
@@ -144,7 +143,7 @@ module _ (text : Bytes) (K : List ℕ) (i c : ℕ) (t : Table) where
     body_says (passed v) s = (
       s.0,
       (enter_sound outer (suc i) ds (table_of text u) h).0,
-      subst Bounded body_table_lem (sound_bounded text u sound),
+      subst Bounded body_table_lem (table_bounded text u),
       subst (λ U. Agrees text K R' U (suc c) e) body_table_lem s.1,
     )
 

@@ -2,44 +2,43 @@
 -- and where its bytes stand.
 use mathlib.Core.Path.{◌≡◌, refl, sym, ap, subst, ◌∙◌}
 use mathlib.Core.Logic.{◌⊎◌, inl, inr}
-use mathlib.Core.List.{List}
 use Prim.Native.Nat.{ℕ, ◌+◌, ◌-◌, ◌≤◌, ◌<◌}
 use native.Mathlib.Omega.{arith}
 use lib.ListN.{length, take, drop}
+use Rattle.std.specs.Prelude.{Option, Some, None}
 use borrow.Author.Tests.{eq-eqb, ne_eqb}
 use Rattle.grammar.specs.Bytes.{Bytes}
 use Rattle.grammar.specs.Operator.{Table}
 use Rattle.grammar.proofs.Doubling.{IsDoubled}
 use Rattle.grammar.proofs.Logic.{below}
-use Rattle.rows.specs.Fields.{kind, start, size, closer, Within}
+use Rattle.rows.specs.Fields.{TokenRow, NoteRow, kind, start, size, closer, Within}
 use Rattle.rows.specs.Tokens.{written_of, Paired, done, single, bracket, block}
 use Rattle.rows.proofs.Fields.{within}
 use Rattle.rows.proofs.Noting.{WordsAt, number_noted, number_item}
 use Rattle.rows.proofs.Stored.{part_ends, stored_sized, stored_doubled, stored_written, part_written}
 use Rattle.operators.specs.Entries.{coded_find, IsName}
-use Rattle.operators.specs.declared.table.Found.{Found}
-use Rattle.operators.specs.declared.table.Found.TheVariants.{At, Nothing}
+use Rattle.operators.specs.declared.table.Table as E
 use Rattle.rows.specs.declared.class.Class.{Class}
 use Rattle.rows.specs.declared.class.Class.TheVariants.{Name, Number, Operator, Bracket, Block}
 use Rattle.resolving.specs.Resolving.{end_of, found_class, coded_class, Ranged, AtomNoted, Notes}
 
-module _ (text : Bytes) (K : List ℕ) (i : ℕ) (W : List ℕ) (count : ℕ) where
+module _ (text : Bytes) (K : TokenRow) (i : ℕ) (t : E.Table) where
   abbrev class : Class
-  class = coded_class text K i W count
+  class = coded_class text K i t
 
-  abbrev finds : Found
-  finds = coded_find text W (written_of text K i) 0 count
+  abbrev finds : Option ℕ
+  finds = coded_find text t.entries (written_of text K i) 0 t.count
 
   -- A word or sign: what the search of its name finds.
   class_symbol : kind K i ≡ 1 → class ≡ found_class (start K i) (size K i) finds
   unfolding coded_class
   class_symbol e = rw (eq-eqb (kind K i) 1 e, coded_class)
 
-  pub class_operator : kind K i ≡ 1 → (k : ℕ) → finds ≡ At k → class ≡ Operator k
+  pub class_operator : kind K i ≡ 1 → (k : ℕ) → finds ≡ Some k → class ≡ Operator k
   unfolding found_class
   class_operator e k f = class_symbol e ∙ ap (found_class (start K i) (size K i)) f
 
-  pub class_name : kind K i ≡ 1 → finds ≡ Nothing → class ≡ Name (start K i) (size K i)
+  pub class_name : kind K i ≡ 1 → finds ≡ None → class ≡ Name (start K i) (size K i)
   unfolding found_class
   class_name e f = class_symbol e ∙ ap (found_class (start K i) (size K i)) f
 
@@ -71,16 +70,16 @@ module _ (text : Bytes) (K : List ℕ) (i : ℕ) (W : List ℕ) (count : ℕ) wh
 
   -- What a class says: of a name, that it is no operator or that it is quoted.
   abbrev pub Says : Class → Type 0
-  Says (Operator k) = (kind K i ≡ 1) × (finds ≡ At k)
-  Says (Name s n) = (s ≡ start K i) × (n ≡ size K i) × (((kind K i ≡ 1) × (finds ≡ Nothing)) ⊎ (kind K i ≡ 3))
+  Says (Operator k) = (kind K i ≡ 1) × (finds ≡ Some k)
+  Says (Name s n) = (s ≡ start K i) × (n ≡ size K i) × (((kind K i ≡ 1) × (finds ≡ None)) ⊎ (kind K i ≡ 3))
   Says Number = kind K i ≡ 2
   Says (Bracket c) = (kind K i ≡ 4) × (closer K i ≡ c)
   Says (Block e) = (kind K i ≡ 7) × (end_of K i ≡ e)
 
-  symbol_says : kind K i ≡ 1 → (f : Found) → finds ≡ f → Says (found_class (start K i) (size K i) f)
+  symbol_says : kind K i ≡ 1 → (f : Option ℕ) → finds ≡ f → Says (found_class (start K i) (size K i) f)
   unfolding found_class
-  symbol_says k (At e) f = (k, f)
-  symbol_says k Nothing f = (refl, refl, inl (k, f))
+  symbol_says k (Some e) f = (k, f)
+  symbol_says k None f = (refl, refl, inl (k, f))
 
   atom_says : (1 ≤ kind K i) × (kind K i ≤ 3) → Says class
   atom_says h =
@@ -101,15 +100,12 @@ module _ (text : Bytes) (K : List ℕ) (i : ℕ) (W : List ℕ) (count : ℕ) wh
   found_says p l x e = subst Says (sym e) (class_says p l)
 
 -- A token of a range stands in the row of roles, and its bytes in the text.
-module _ {text : Bytes} {K R : List ℕ} {i to : ℕ} (g : Ranged text K R i to) (l : i < to) where
+module _ {text : Bytes} {K : TokenRow} {R : NoteRow} {i to : ℕ} (g : Ranged text K R i to) (l : i < to) where
   pub stands : i < length g.placed
   stands = omega (arith, g.within)
 
-  pub token_within : Within 4 K i
-  token_within = within 4 (length g.placed) K i g.tokens stands
-
-  pub roles_within : Within 4 R i
-  roles_within = within 4 (length g.placed) R i g.roles stands
+  pub roles_within : Within R i
+  roles_within = within (length g.placed) R i g.roles stands
 
   pub part_within : {s n : ℕ} → s ≡ start K i → n ≡ size K i → s + n ≤ length text
   part_within a b = part_ends g.stored i stands a b
@@ -119,6 +115,12 @@ module _ {text : Bytes} {K R : List ℕ} {i to : ℕ} (g : Ranged text K R i to)
 
   pub part_doubled : kind K i ≡ 3 → IsDoubled (written_of text K i)
   part_doubled = stored_doubled g.stored i stands
+
+  pub token_ends : start K i + size K i ≤ length text
+  token_ends = part_ends g.stored i stands refl refl
+
+  pub token_named : {m : Bytes} → m ≡ written_of text K i → kind K i ≤ 3 → IsName m
+  token_named e k = rw e (omega (arith, stored_written g.stored i stands, stored_sized g.stored i stands k))
 
   pub part_named : {s n : ℕ} → s ≡ start K i → n ≡ size K i → kind K i ≤ 3 → IsName (take (s + n - s) (drop s text))
   part_named a b k =
@@ -130,15 +132,15 @@ name_kind_lem (inl h) = omega (arith, h.0)
 name_kind_lem (inr h) = omega arith
 
 -- By the class: a number, bracket pair or block is noted without roles; a name, number or operator is an atom.
-module _ (text : Bytes) (K : List ℕ) (T : Table) (R : List ℕ) (i : ℕ) (R' : List ℕ) where
+module _ (text : Bytes) (K : TokenRow) (T : Table) (R : NoteRow) (i : ℕ) (R' : NoteRow) where
   pub no_roles_noted :
-      (W : List ℕ) (count : ℕ) (x : Class) → ((k : ℕ) → x ≡ Operator k → ⊥) → ((s n : ℕ) → x ≡ Name s n → ⊥) → Says text K i W count x
+      (t : E.Table) (x : Class) → ((k : ℕ) → x ≡ Operator k → ⊥) → ((s n : ℕ) → x ≡ Name s n → ⊥) → Says text K i t x
       → WordsAt R i 0 0 0 0 R' → Notes text K T R i R' x
-  no_roles_noted W count (Name s n) o m h w = absurd (m s n refl)
-  no_roles_noted W count (Operator e) o m h w = absurd (o e refl)
-  no_roles_noted W count Number o m h w = number_item text K T R i R' h (number_noted R i R' T _ w)
-  no_roles_noted W count (Bracket c) o m h w = (h.0, h.1, w.arrives, w.kept)
-  no_roles_noted W count (Block e) o m h w = (h.0, h.1, w.arrives, w.kept)
+  no_roles_noted t (Name s n) o m h w = absurd (m s n refl)
+  no_roles_noted t (Operator e) o m h w = absurd (o e refl)
+  no_roles_noted t Number o m h w = number_item text K T R i R' h (number_noted R i R' T _ w)
+  no_roles_noted t (Bracket c) o m h w = (h.0, h.1, w.arrives, w.kept)
+  no_roles_noted t (Block e) o m h w = (h.0, h.1, w.arrives, w.kept)
 
   pub atom_noted : (x : Class) → ((c : ℕ) → x ≡ Bracket c → ⊥) → ((e : ℕ) → x ≡ Block e → ⊥) → Notes text K T R i R' x → AtomNoted text K T R i R'
   atom_noted (Name s n) o m h = h

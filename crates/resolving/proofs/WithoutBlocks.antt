@@ -1,10 +1,11 @@
 -- A range without blocks: nothing is declared in it, so its check passes with every fuel that is enough, and a row that has the roles of each
 -- token agrees with it. By induction on how the range is paired.
 use mathlib.Core.Path.{◌≡◌, refl}
-use mathlib.Core.List.{List, ◌∷◌}
+use mathlib.Core.List.{◌∷◌}
 use Prim.Native.Nat.{ℕ, zero, suc, ◌+◌, ◌-◌, ◌≤◌, ◌<◌}
 use native.Mathlib.Omega.{arith}
 use lib.ListN.{length}
+use Rattle.std.specs.Prelude.{Ok}
 use Rattle.grammar.specs.Bytes.{Bytes}
 use Rattle.grammar.specs.Outcome.{passed, and_then}
 use Rattle.grammar.specs.Operator.{Table}
@@ -13,15 +14,14 @@ use Rattle.grammar.specs.Span.{Item, item_tokens, items}
 use Rattle.grammar.specs.Span as Span
 use Rattle.grammar.specs.Blocks.{check_item, check_items, check_blocks}
 use Rattle.grammar.proofs.Logic.{below}
-use Rattle.rows.specs.Fields.{kind, arrival}
+use Rattle.rows.specs.Fields.{TokenRow, NoteRow, kind, arrival}
 use Rattle.rows.specs.Tokens.{atom_in, range, IsAtomKind, Paired, done, single, bracket, block, Unblocked}
 use Rattle.rows.specs.Agreeing.{Noted, Agrees, ends, atoms, brackets}
 use Rattle.starting_operators.specs.Starting.{Notable, NotesAll}
 use Rattle.rows.proofs.PairedItems.{items_done, items_single, items_bracket, behind_pair}
-use Rattle.resolving.specs.declared.Resolved.TheVariants.{Passed}
 use Rattle.resolving.specs.Resolving.{Ranged, Resolving}
 
-module _ (text : Bytes) (K : List ℕ) (T : Table) where
+module _ (text : Bytes) (K : TokenRow) (T : Table) where
   -- An item that passes, before items that do.
   passes_first :
       (i j to k : ℕ) (x : Item) → items (range text K i to) ≡ x ∷ items (range text K j to) → i + length (item_tokens x) ≡ j
@@ -56,7 +56,7 @@ module _ (text : Bytes) (K : List ℕ) (T : Table) where
 
     -- The row has the roles of each atom, and no bracket is an operator.
     module _
-        (R : List ℕ) (noted : (j : ℕ) → j < n → IsAtomKind (kind K j) → Noted T R j (atom_in text K j))
+        (R : NoteRow) (noted : (j : ℕ) → j < n → IsAtomKind (kind K j) → Noted T R j (atom_in text K j))
         (quiet : (j : ℕ) → j < n → kind K j ≡ 4 → arrival R j ≡ 0)
       where
         pub blockless_agrees : {i to : ℕ} → Paired K i to → to ≤ n → Agrees text K R T i to
@@ -67,7 +67,7 @@ module _ (text : Bytes) (K : List ℕ) (T : Table) where
         blockless_agrees (block c e o w v b d f y z g p q) h = absurd (unblocked c (omega arith) y)
 
 -- The tokens of such a range are atoms and brackets.
-flat_kinds : {K : List ℕ} {n i to : ℕ} → Unblocked K n → Paired K i to → to ≤ n → (j : ℕ) → i ≤ j → j < to → kind K j ≤ 5
+flat_kinds : {K : TokenRow} {n i to : ℕ} → Unblocked K n → Paired K i to → to ≤ n → (j : ℕ) → i ≤ j → j < to → kind K j ≤ 5
 flat_kinds u done h j a b = absurd (omega arith)
 flat_kinds {K} u (single {i = i} l k p) h j a b =
     below j (suc i) (λ c. let e : j ≡ i = omega arith in rw e (omega arith)) (λ c. flat_kinds u p h j c b)
@@ -78,7 +78,7 @@ flat_kinds {K} u (bracket {i = i} c o w l d e p q) h j a b =
 flat_kinds u (block c e o w v l d f y z g p q) h j a b = absurd (u c (omega arith) y)
 
 -- Under the starting operators: what the pass over all tokens asks, and that what it leaves is what is asked of the whole text.
-module _ {text : Bytes} {K R : List ℕ} {n : ℕ} (g : Ranged text K R 0 n) (unblocked : Unblocked K n) where
+module _ {text : Bytes} {K : TokenRow} {R : NoteRow} {n : ℕ} (g : Ranged text K R 0 n) (unblocked : Unblocked K n) where
   pub notable : Notable text K R n
   notable =
       record {
@@ -90,7 +90,7 @@ module _ {text : Bytes} {K R : List ℕ} {n : ℕ} (g : Ranged text K R 0 n) (un
         roles = omega (arith, g.within, g.roles);
       }
 
-  pub blockless_resolves : (R' : List ℕ) → NotesAll text K n R R' → Resolving text K start_table 0 n R R' Passed
+  pub blockless_resolves : (R' : NoteRow) → NotesAll text K n R R' → Resolving text K start_table 0 n R R' (Ok tt)
   blockless_resolves R' h =
       record {
         answer = λ k l. rw (blockless_passes text K start_table n unblocked g.paired (omega arith) k l) (refl, agrees);

@@ -1,17 +1,20 @@
 -- Roles as numbers: which role a number stands for, by where it lies; that a role's number stands for that role; and what the tests of
 -- `role` come to. Each law is by cases on the tests of the number.
-use mathlib.Core.Path.{◌≡◌, refl, sym, ap, ◌∙◌}
-use mathlib.Core.Bool.{Bool, true, false, ◌&&◌, ◌||◌, not, and-true, and-false, or-false}
+use mathlib.Core.Path.{◌≡◌, refl, sym, ap, subst, ◌∙◌}
+use mathlib.Core.Bool.{Bool, true, false, ◌&&◌, ◌||◌, not, and-true, and-false, or-true, or-false, Bool-set}
+use mathlib.Core.Logic.{inl, inr}
 use mathlib.Core.Option.{Option, none, some}
 use Prim.Native.Nat.{ℕ, suc, ◌+◌, ◌-◌, ◌≤◌, ◌<◌}
 use native.Mathlib.Omega.{arith}
 use lib.Dec.{eqb, ltb, leb}
-use borrow.Author.Tests.{ltb-false, leb-true, leb-false, lt-ltb, le-ltb, le-leb, lt-leb, eq-eqb, ne_eqb}
+use borrow.Author.Tests.{ltb-false, eqb-true, leb-true, leb-false, lt-ltb, le-ltb, le-leb, lt-leb, eq-eqb, ne_eqb}
 use Rattle.grammar.specs.Operator.{Fixity, Prefix, Infix, Postfix, Associativity, left, right, non, Role, Roles}
 use Rattle.grammar.specs.SpanTree.{root_precedence, is_left, is_right, right_root, on_left, on_right, admits_equal, admits}
 use Rattle.grammar.specs.Climb.{first_role}
-use Rattle.grammar.proofs.Logic.{below, impossible}
-use Rattle.rows.specs.Codes.{side_code, role_code, role_of, roles_of, Fit, IsRole, arrival_of, gives_way_to}
+use Rattle.grammar.proofs.Logic.{below, impossible, and_left, and_right, or_cases}
+use Rattle.rows.specs.declared.role.Role as Coded
+use Rattle.rows.specs.declared.roles.Note.{Note}
+use Rattle.rows.specs.Codes.{side_code, role_code, role_of, roles_of, Fit, IsRole, between, is_role, arrival_of, gives_way_to}
 
 -- The role of a number, by where it lies.
 pub no_role : (c : ℕ) → c ≡ 0 → role_of c ≡ none
@@ -271,3 +274,78 @@ module _ (c o : ℕ) (q : Role) (e : role_of c ≡ some q) where
   unfolding admits admits_equal
   admits_right_below h =
       rw (← role_precedence c q e) (only_below (root_precedence (role_of o)) q.precedence _ (is_right-role c q e ∙ lt-leb 6144 c h))
+
+-- The test of a number says whether it is that of a role.
+between_true : (low high c : ℕ) → low ≤ c → c ≤ high → between low high c ≡ true
+between_true low high c h k = rw (le-leb low c h, le-leb c high k)
+
+between_bounds : (low high c : ℕ) → between low high c ≡ true → (low ≤ c) × (c ≤ high)
+between_bounds low high c e = (leb-true low c (and_left _ _ e), leb-true c high (and_right _ _ e))
+
+pub is_role_test : (c : ℕ) → IsRole c → is_role c ≡ true
+is_role_test c f =
+    number_cases
+    c
+    (λ e. rw (eq-eqb c 0 e))
+    (λ h k. let b = left_bounds c f h k in rw (between_true 2049 3248 c b.0 b.1) (or-true (eqb c 0)))
+    (λ h k.
+    let b = non_bounds c f h k in
+    rw (between_true 4097 5296 c b.0 b.1, or-true (between 2049 3248 c)) (or-true (eqb c 0)))
+    (λ h.
+    let b = right_bounds c f h in
+    rw (between_true 6145 7344 c b.0 b.1, or-true (between 4097 5296 c), or-true (between 2049 3248 c)) (or-true (eqb c 0)))
+
+sided_role : (a : Associativity) (c : ℕ) → side_code a < c → c ≤ side_code a + 1200 → IsRole c
+unfolding role_code
+sided_role a c h k =
+    let p = c - side_code a in
+    let e : side_code a + p ≡ c = omega arith in
+    subst IsRole e (code-role (a_role p a) (omega arith, omega arith))
+
+pub test_is_role : (c : ℕ) → is_role c ≡ true → IsRole c
+unfolding side_code role_code
+test_is_role c e = elim (or_cases _ _ e) [ inl z ↦ rw (eqb-true c 0 z) (code-role none tt) | inr f ↦ some_side f ]
+  where
+    in_side : (a : Associativity) → between (side_code a + 1) (side_code a + 1200) c ≡ true → IsRole c
+    in_side a e = let b = between_bounds (side_code a + 1) (side_code a + 1200) c e in sided_role a c (omega arith) b.1
+
+    some_side : between 2049 3248 c || (between 4097 5296 c || between 6145 7344 c) ≡ true → IsRole c
+    some_side e =
+        elim (or_cases _ _ e) [ inl z ↦ in_side left z | inr f ↦ elim (or_cases _ _ f) [ inl z ↦ in_side non z | inr z ↦ in_side right z ] ]
+
+-- So the number of a role of the code is that of a role.
+pub role_valid : (r : Coded.Role) → IsRole r.code
+role_valid r = test_is_role r.code r.valid
+
+pub code_small : (r : Coded.Role) → r.code ≤ 7344
+code_small r = code_bound r.code (role_valid r)
+
+pub precedence_small : (r : Coded.Role) → root_precedence (role_of r.code) ≤ 1200
+precedence_small r = precedence_bound r.code (role_valid r)
+
+-- Roles with one number are one role.
+role_with : (c : ℕ) → is_role c ≡ true → Coded.Role
+role_with c v = record { code = c; valid = v }
+
+pub same_role : (r s : Coded.Role) → r.code ≡ s.code → r ≡ s
+unfolding role_with
+same_role r s e =
+    subst (λ c. (v : is_role c ≡ true) → r ≡ role_with c v) e (λ v. ap (role_with r.code) (Bool-set (is_role r.code) true r.valid v)) s.valid
+
+-- Notes with the same numbers and the same arrival are one note.
+note_with : Coded.Role → Coded.Role → Coded.Role → ℕ → Note
+note_with p i q a = record { roles = record { prefix = p; «infix» = i; postfix = q }; arrival = a }
+
+with_same : {p i q p' i' q' : Coded.Role} {a a' : ℕ} → p ≡ p' → i ≡ i' → q ≡ q' → a ≡ a' → note_with p i q a ≡ note_with p' i' q' a'
+with_same e f g h = cc
+
+pub same_note :
+    (m n : Note) → m.roles.prefix.code ≡ n.roles.prefix.code → m.roles.«infix».code ≡ n.roles.«infix».code
+    → m.roles.postfix.code ≡ n.roles.postfix.code → m.arrival ≡ n.arrival → m ≡ n
+unfolding note_with
+same_note m n p i q a = with_same (same_role _ _ p) (same_role _ _ i) (same_role _ _ q) a
+
+-- What the methods of a role and of the roles of an operator are proved by.
+pub ruleset precedences = (role_valid, no_precedence, left_precedence, non_precedence, right_precedence)
+
+pub ruleset arrivals = (precedence_small, arrival_infix, arrival-postfix, arrival-prefix, arrival_none)

@@ -1,5 +1,6 @@
 pub mod Codes
 pub mod Fields
+pub mod KindNumbers
 pub mod BelowTokens
 pub mod Ranges
 pub mod PairedItems

@@ -21,7 +21,7 @@ use Rattle.grammar.proofs.Items.{
   collected_pair,
   outside_pair,
 }
-use Rattle.rows.specs.Fields.{kind}
+use Rattle.rows.specs.Fields.{TokenRow, kind}
 use Rattle.rows.specs.Tokens.{atom_in, range, IsAtomKind, IsQuietKind, Paired, done, single as one_atom, bracket, block}
 use Rattle.rows.proofs.Ranges.{length-range, range_none, range_atom, range_quiet, range_bracket, range_block}
 
@@ -43,7 +43,7 @@ pair_behind b o e p q ts more rest c h =
     rw (append_assoc ts (e ∷ more) rest, outside_items b o e p q ts more c)
     (outside_items b o e p q ts (more ++ rest) c ∙ ap (λ xs. item b ts ∷ xs) h)
 
-module _ (text : Bytes) (K : List ℕ) where
+module _ (text : Bytes) (K : TokenRow) where
   -- A paired range is collected as a whole.
   pub collected_range : {i to : ℕ} → Paired K i to → Collected (range text K i to)
   unfolding effect

@@ -1,7 +1,7 @@
 -- The tokens of a row from one number to another: cut at a token, and by the kinds of the tokens where they are cut.
 -- Kinds 1 to 3 are those of atoms, and a kind of structure has one token.
 use mathlib.Core.Path.{◌≡◌, refl, ap, ap₂, ◌∙◌}
-use mathlib.Core.List.{List, [], ◌∷◌, ◌++◌}
+use mathlib.Core.List.{[], ◌∷◌, ◌++◌}
 use Prim.Native.Nat.{ℕ, zero, suc, ◌+◌, ◌-◌, ◌≤◌, ◌<◌}
 use native.Mathlib.Omega.{arith}
 use lib.ListN.{length, get_or}
@@ -11,7 +11,7 @@ use Rattle.grammar.specs.Span.{InDeclarations}
 use Rattle.grammar.specs.Coded.{kind_of, token_of}
 use Rattle.grammar.proofs.Items.{AllQuiet}
 use Rattle.grammar.proofs.Offsets.{structure_coded}
-use Rattle.rows.specs.Fields.{kind, start, size}
+use Rattle.rows.specs.Fields.{TokenRow, kind, start, size}
 use Rattle.rows.specs.Tokens.{token_in, atom_of, atom_in, tokens_in, range, written_of, IsAtomKind, IsQuietKind}
 
 -- The tokens of atom kinds are atoms ..
@@ -35,7 +35,7 @@ quiet_kind (suc (suc (suc (suc (suc zero))))) c q = absurd (q.3 refl)
 quiet_kind (suc (suc (suc (suc (suc (suc zero)))))) c q = refl
 quiet_kind (suc (suc (suc (suc (suc (suc (suc k))))))) c q = absurd (omega (arith, q.1))
 
-module _ (text : Bytes) (K : List ℕ) where
+module _ (text : Bytes) (K : TokenRow) where
   pub token_atom : (i : ℕ) → IsAtomKind (kind K i) → token_in text K i ≡ atom (atom_in text K i)
   unfolding token_in atom_in
   token_atom i k = atom_kind_lem (kind K i) (written_of text K i) k
@@ -132,7 +132,7 @@ module _ (text : Bytes) (K : List ℕ) where
 
 -- A row with the same kinds, places and sizes has the same tokens.
 module _
-    (text : Bytes) (K K' : List ℕ) (kinds : (j : ℕ) → kind K' j ≡ kind K j) (starts : (j : ℕ) → start K' j ≡ start K j)
+    (text : Bytes) (K K' : TokenRow) (kinds : (j : ℕ) → kind K' j ≡ kind K j) (starts : (j : ℕ) → start K' j ≡ start K j)
     (sizes : (j : ℕ) → size K' j ≡ size K j)
   where
     pub token_kept : (j : ℕ) → token_in text K' j ≡ token_in text K j

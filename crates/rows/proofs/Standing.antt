@@ -15,17 +15,17 @@ use Rattle.grammar.specs.Tree.{Tree, nothing, leaf, bracket, block, node, flat, 
 use Rattle.grammar.specs.Span.{Item, item_tokens, all_item_tokens, items}
 use Rattle.grammar.specs.Span as Span
 use Rattle.grammar.proofs.Logic.{impossible}
-use Rattle.rows.specs.Fields.{kind, closer, arrival}
+use Rattle.rows.specs.Fields.{TokenRow, NoteRow, kind, closer, arrival}
 use Rattle.rows.specs.Codes.{Bounded}
 use Rattle.rows.specs.Tokens.{range, atom_in, IsAtomKind}
 use Rattle.rows.specs.Agreeing.{Noted, Agrees, ends, atoms, brackets, blocks}
 use Rattle.rows.proofs.PairedItems.{items_done, items_single, items_bracket, items_block, behind_pair, behind_scope}
 use Rattle.rows.proofs.PairedCases.{paired_ordered, agrees_paired}
 
-pub agrees_ordered : {text : Bytes} {K R : List ℕ} {T : Table} {i to : ℕ} → Agrees text K R T i to → i ≤ to
+pub agrees_ordered : {text : Bytes} {K : TokenRow} {R : NoteRow} {T : Table} {i to : ℕ} → Agrees text K R T i to → i ≤ to
 agrees_ordered p = paired_ordered (agrees_paired p)
 
-module _ (text : Bytes) (K R : List ℕ) where
+module _ (text : Bytes) (K : TokenRow) (R : NoteRow) where
   -- The items `xs` at the front stand from `i` to `at`, the items `ys` behind them from `at` to `to`.
   pub record Split (T : Table) (i at to : ℕ) (xs ys : List Item) : Type 0 where
     pub place : at ≡ i + length (all_item_tokens xs)

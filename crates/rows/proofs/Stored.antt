@@ -19,7 +19,7 @@ use Rattle.grammar.proofs.Logic.{below}
 use Rattle.grammar.proofs.Runs.{run-append, front-spelled}
 use Rattle.grammar.proofs.Scanned.{scan-tokens, length_tokens, taken_not_blank}
 use Rattle.grammar.proofs.TextParts.{Here, Stand, Behind, offsets_behind, offsets_stand}
-use Rattle.rows.specs.Fields.{kind, start, first_byte, size}
+use Rattle.rows.specs.Fields.{TokenRow, kind, start, first_byte, size}
 use Rattle.rows.specs.Tokens.{written_of, token_in, range, place_of, size_of, kind_at, place_at, size_at, Stored}
 use Rattle.rows.proofs.Fields.{first_quoted, first_other}
 use Rattle.rows.proofs.Ranges.{length-range, range_token}
@@ -60,7 +60,7 @@ numbered text o i (p ∷ ps) s (suc j) h =
       listed = n.listed;
     }
 
-module _ {text : Bytes} {ps : List Placed} {K : List ℕ} (v : Stored text ps K) where
+module _ {text : Bytes} {ps : List Placed} {K : TokenRow} (v : Stored text ps K) where
   pub stored_few : length ps ≤ most_tokens
   stored_few = (scan-tokens most_tokens 0 text ps v.scanned).1
 
@@ -296,12 +296,12 @@ module _ {text : Bytes} {ps : List Placed} {K : List ℕ} (v : Stored text ps K)
 
 -- The part of the text from where the bytes of a token begin, as long as they are.
 pub part_written :
-    (text : Bytes) (K : List ℕ) (j : ℕ) {s n : ℕ} → s ≡ start K j → n ≡ size K j → take (s + n - s) (drop s text) ≡ written_of text K j
+    (text : Bytes) (K : TokenRow) (j : ℕ) {s n : ℕ} → s ≡ start K j → n ≡ size K j → take (s + n - s) (drop s text) ≡ written_of text K j
 part_written text K j {s} {n} a b = let e : s + n - s ≡ size K j = omega arith in rw (e, a)
 
 -- A row with the same kinds, places and sizes has the same tokens.
 pub stored_kept :
-    {text : Bytes} {ps : List Placed} (K K' : List ℕ) → ((j : ℕ) → kind K' j ≡ kind K j) → ((j : ℕ) → start K' j ≡ start K j)
+    {text : Bytes} {ps : List Placed} (K K' : TokenRow) → ((j : ℕ) → kind K' j ≡ kind K j) → ((j : ℕ) → start K' j ≡ start K j)
     → ((j : ℕ) → size K' j ≡ size K j) → Stored text ps K → Stored text ps K'
 stored_kept K K' kinds starts sizes v = record {
   scanned = v.scanned;

@@ -18,7 +18,7 @@ use Rattle.grammar.specs.Coded.{kind_of}
 use Rattle.grammar.specs.Answer.{Reading, offset_of}
 use Rattle.grammar.proofs.Logic.{impossible}
 use Rattle.grammar.proofs.Items.{items-flat}
-use Rattle.rows.specs.Fields.{kind}
+use Rattle.rows.specs.Fields.{TokenRow, NoteRow, RootRow, kind}
 use Rattle.rows.specs.Tokens.{token_in, range, place_of, size_of, Stored}
 use Rattle.rows.specs.Agreeing.{Agrees}
 use Rattle.rows.specs.Standing.{Tokened}
@@ -59,7 +59,7 @@ tree_holding T (node l m r) a i = (
   tree_holding T r a.1 i.1,
 )
 
-module _ {text : Bytes} {ps : List Placed} {K : List ℕ} (v : Stored text ps K) (R : List ℕ) where
+module _ {text : Bytes} {ps : List Placed} {K : TokenRow} (v : Stored text ps K) (R : NoteRow) where
   -- What the row has of an atom.
   atom_kind_lem :
       {T : Table} {i to : ℕ} {a : Atom} {ys : List Span.Item} → to ≤ length ps
@@ -122,7 +122,7 @@ module _ {text : Bytes} {ps : List Placed} {K : List ℕ} (v : Stored text ps K)
       )
 
 -- So of a text that is read.
-pub ready_tokened : {text : Bytes} {K R O : List ℕ} {r : Reading} → Ready text K R O r → Tokened (offset_of text r.tokens) K 0 r.tree
+pub ready_tokened : {text : Bytes} {K : TokenRow} {R : NoteRow} {O : RootRow} {r : Reading} → Ready text K R O r → Tokened (offset_of text r.tokens) K 0 r.tree
 ready_tokened {text} {K} {R} {O} {r} h =
     let t = h.is_tree in
     tokened h.stored R r.tree (tree_holding _ r.tree t.outer.0 t.inner) (omega arith) h.agrees

@@ -1,11 +1,32 @@
 -- Roles as numbers: 0 for none, else a multiple of 2,048 for the associativity plus the precedence.
-use Rattle.std.specs.Prelude.{◌≡◌, Bool, true, false, ◌&&◌, ◌||◌, not, ℕ, suc, ◌+◌, ◌-◌, ◌≤◌, ltb, eqb}
+use Rattle.std.specs.Prelude.{◌≡◌, Bool, true, false, ◌&&◌, ◌||◌, not, ℕ, suc, ◌+◌, ◌-◌, ◌≤◌, ltb, leb, eqb}
 use Rattle.std.proofs.Math.Option.{Option, none, some}
 use Rattle.grammar.specs.Bytes.{Bytes}
 use Rattle.grammar.specs.Operator.{Fixity, Prefix, Infix, Postfix, Associativity, left, right, non, Role, Roles, Table, role}
 use Rattle.grammar.specs.Declaration.{widest_precedence}
-use Rattle.grammar.specs.SpanTree.{is_right}
+use Rattle.grammar.specs.SpanTree.{is_right, Position, on_left, on_right}
 use Rattle.grammar.specs.Climb.{first_role}
+use Rattle.rows.specs.declared.fixity.Fixity as F
+use Rattle.rows.specs.declared.fixity.Fixity.TheVariants as Fixities
+use Rattle.rows.specs.declared.fixity.Associativity as A
+use Rattle.rows.specs.declared.fixity.Associativity.TheVariants as Sides
+use Rattle.rows.specs.declared.fixity.Position as P
+use Rattle.rows.specs.declared.fixity.Position.TheVariants as Positions
+
+-- Fixities, associativities and positions as the code has them.
+abbrev pub fixity_in : F.Fixity → Fixity
+fixity_in Fixities.Infix = Infix
+fixity_in Fixities.Prefix = Prefix
+fixity_in Fixities.Postfix = Postfix
+
+abbrev pub associativity_in : A.Associativity → Associativity
+associativity_in Sides.Left = left
+associativity_in Sides.Non = non
+associativity_in Sides.Right = right
+
+abbrev pub position_in : P.Position → Position
+position_in Positions.OnLeft = on_left
+position_in Positions.OnRight = on_right
 
 unfoldable pub side_code : Associativity → ℕ
 side_code left = 2048
@@ -39,6 +60,13 @@ Fit (some r) = (1 ≤ r.precedence) × (r.precedence ≤ widest_precedence)
 -- The number of a role, or of none.
 abbrev pub IsRole : ℕ → Type 0
 IsRole c = (role_code (role_of c) ≡ c) × Fit (role_of c)
+
+-- The same as a test: 0, or a multiple of 2,048 up to 6,144 with 1 to 1,200 more.
+abbrev pub between : ℕ → ℕ → ℕ → Bool
+between low high c = leb low c && leb c high
+
+abbrev pub is_role : ℕ → Bool
+is_role c = eqb c 0 || (between 2049 3248 c || (between 4097 5296 c || between 6145 7344 c))
 
 -- Every role in force is one.
 abbrev pub Bounded : Table → Type 0

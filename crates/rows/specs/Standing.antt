@@ -7,6 +7,9 @@ use Rattle.grammar.specs.SpanTree.{present}
 use Rattle.grammar.specs.Tree.{Tree, nothing, leaf, bracket, block, node, flat, span_tree}
 use Rattle.grammar.specs.Nodes.{written_offset}
 use Rattle.grammar.specs.Coded.{kind_of}
+use Rattle.rows.specs.declared.token.Token.{Token}
+use Rattle.rows.specs.declared.roles.Note.{Note}
+use Rattle.rows.specs.declared.operands.Operands.{Operands}
 use Rattle.rows.specs.Fields.{kind, start, size, closer, left, right}
 use Rattle.rows.specs.Codes.{Fit}
 use Rattle.rows.specs.Agreeing.{Noted}
@@ -21,7 +24,7 @@ mark i (node l m r) = suc (i + length (flat l))
 
 -- The row of roots has the roots of all parts of the tree: of an operator those of its operands; of `(` and `in` on the left that of the
 -- span that it opens.
-abbrev pub Rooted : List ℕ → ℕ → Tree → Type 0
+abbrev pub Rooted : List Operands → ℕ → Tree → Type 0
 Rooted O i nothing = Unit {0}
 Rooted O i (leaf a) = (left O i ≡ 0) × (right O i ≡ 0)
 Rooted O i (bracket t) = (left O i ≡ mark (suc i) t) × Rooted O (suc i) t
@@ -32,7 +35,7 @@ Rooted O i (node l m r) =
 
 -- The row of tokens has the tree's tokens; `places` gives the offset of each. Every bracket pair and block holds something, and every
 -- operator has an operand.
-abbrev pub Tokened : (ℕ → ℕ) → List ℕ → ℕ → Tree → Type 0
+abbrev pub Tokened : (ℕ → ℕ) → List Token → ℕ → Tree → Type 0
 Tokened places K i nothing = Unit {0}
 Tokened places K i (leaf a) =
     (kind K i ≡ kind_of (atom a)) × (start K i ≡ written_offset a (places i)) × (size K i ≡ length (as_written a))
@@ -48,7 +51,7 @@ Tokened places K i (node l m r) =
     × Tokened places K i l × Tokened places K (suc a) r
 
 -- The row of roles has the roles of each operator of the tree in the operators in force there; `T` has those of the tree's outermost span.
-abbrev pub Roled : List ℕ → Table → ℕ → Tree → Type 0
+abbrev pub Roled : List Note → Table → ℕ → Tree → Type 0
 Roled R T i nothing = Unit {0}
 Roled R T i (leaf a) = Unit {0}
 Roled R T i (bracket t) = Roled R T (suc i) t
@@ -58,11 +61,11 @@ Roled R T i (node l m r) =
 
 -- The three rows of a text.
 pub record Rows : Type 0 where
-  pub tokens : List ℕ
-  pub roles : List ℕ
-  pub roots : List ℕ
+  pub tokens : List Token
+  pub roles : List Note
+  pub roots : List Operands
 
-abbrev pub rows : List ℕ → List ℕ → List ℕ → Rows
+abbrev pub rows : List Token → List Note → List Operands → Rows
 rows K R O = record { tokens = K; roles = R; roots = O }
 
 -- A tree that stands in the rows from token `from` to token `to`, under the operators `T`, with its root at token `at`.

@@ -8,28 +8,29 @@ use Rattle.grammar.specs.Token.{keyword_let, keyword_in, keyword_end, Structure,
 use Rattle.grammar.specs.Outcome.{passed}
 use Rattle.grammar.specs.Scan.{Placed, scan}
 use Rattle.grammar.specs.Coded.{kind_of, token_of}
-use Rattle.rows.specs.Fields.{kind, start, size, closer}
+use Rattle.rows.specs.declared.token.Token as Row
+use Rattle.rows.specs.Fields.{TokenRow, kind, start, size, closer}
 
 -- The bytes of token number `i`, as written in the text.
-abbrev pub written_of : Bytes → List ℕ → ℕ → Bytes
+abbrev pub written_of : Bytes → List Row.Token → ℕ → Bytes
 written_of text K i = take (size K i) (drop (start K i) text)
 
 -- Token number `i`, and the atom that it is if it is one.
-unfoldable pub token_in : Bytes → List ℕ → ℕ → Token
+unfoldable pub token_in : Bytes → List Row.Token → ℕ → Token
 token_in text K i = token_of (kind K i) (written_of text K i)
 
 unfoldable pub atom_of : ℕ → Bytes → Atom
 atom_of k w = elim (eqb k 1) [ true ↦ symbol w | false ↦ elim (eqb k 2) [ true ↦ number w | false ↦ quoted (undoubled w) ] ]
 
-unfoldable pub atom_in : Bytes → List ℕ → ℕ → Atom
+unfoldable pub atom_in : Bytes → List Row.Token → ℕ → Atom
 atom_in text K i = atom_of (kind K i) (written_of text K i)
 
 -- `n` tokens from number `i` on, and those from number `i` to number `to`.
-unfoldable pub tokens_in : Bytes → List ℕ → ℕ → ℕ → List Token
+unfoldable pub tokens_in : Bytes → List Row.Token → ℕ → ℕ → List Token
 tokens_in text K i zero = []
 tokens_in text K i (suc n) = token_in text K i ∷ tokens_in text K (suc i) n
 
-abbrev pub range : Bytes → List ℕ → ℕ → ℕ → List Token
+abbrev pub range : Bytes → List Row.Token → ℕ → ℕ → List Token
 range text K i to = tokens_in text K i (to - i)
 
 -- The kinds of atoms, and of what can stand among declarations: atoms and `;`.
@@ -40,7 +41,7 @@ abbrev pub IsQuietKind : ℕ → Type 0
 IsQuietKind k = (1 ≤ k) × (k ≤ 6) × (k ≡ 4 → ⊥) × (k ≡ 5 → ⊥)
 
 -- The tokens from number `i` to number `to` are items one behind the other: atoms, bracket pairs and blocks, with their closers.
-pub data Paired (K : List ℕ) : ℕ → ℕ → Type 0 where
+pub data Paired (K : TokenRow) : ℕ → ℕ → Type 0 where
   done : {to : ℕ} → Paired K to to
   single : {i to : ℕ} → i < to → IsAtomKind (kind K i) → Paired K (suc i) to → Paired K i to
   bracket :
@@ -51,7 +52,7 @@ pub data Paired (K : List ℕ) : ℕ → ℕ → Type 0 where
       → ((j : ℕ) → i < j → j < c → IsQuietKind (kind K j)) → Paired K (suc c) e → Paired K (suc e) to → Paired K i to
 
 -- None of `n` tokens is the `in` of a block.
-abbrev pub Unblocked : List ℕ → ℕ → Type 0
+abbrev pub Unblocked : List Row.Token → ℕ → Type 0
 Unblocked K n = (j : ℕ) → j < n → kind K j ≡ 8 → ⊥
 
 -- Where the bytes of a placed token begin: behind the quote of a quoted name.
@@ -84,7 +85,7 @@ abbrev pub size_at : Placed → ℕ
 size_at p = size_of p.token
 
 -- The row begins with the tokens of the text.
-pub record Stored (text : Bytes) (ps : List Placed) (K : List ℕ) : Type 0 where
+pub record Stored (text : Bytes) (ps : List Placed) (K : TokenRow) : Type 0 where
   pub scanned : scan most_tokens 0 text ≡ passed ps
   pub kinds : (j : ℕ) → j < length ps → kind K j ≡ get_or (map kind_at ps) j 0
   pub starts : (j : ℕ) → j < length ps → start K j ≡ get_or (map place_at ps) j 0

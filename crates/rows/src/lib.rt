@@ -1,12 +1,11 @@
-// Rows of 16-bit words, as many words to each token in its order, each word a field with a name. Each row is written by one stage.
+// Rows: of each token of a text, in order, what it is, its roles in force, and its operands. Each row is written by one stage.
 #![tactic(auto)]
 
 pub mod below;
 pub mod class;
+pub mod fixity;
 pub mod in_use;
-pub mod kinds;
+pub mod operands;
 pub mod role;
 pub mod roles;
-pub mod roots;
-pub mod tokens;
-pub mod word;
+pub mod token;

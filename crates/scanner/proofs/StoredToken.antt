@@ -1,19 +1,25 @@
--- A token in the row: where its bytes begin and how many they are goes by its kind, and three stores into one entry leave them there
--- and keep the entries before it.
+-- A token in the row: where its bytes begin and how many they are goes by its kind, and a store into one entry leaves them there and keeps
+-- the entries before it.
 use mathlib.Core.Path.{◌≡◌, refl, sym, ap, ◌∙◌}
 use mathlib.Core.Bool.{true, false}
-use mathlib.Core.List.{List, [], ◌∷◌}
+use mathlib.Core.Logic.{◌⊎◌, inl, inr}
+use mathlib.Core.List.{[], ◌∷◌}
 use Prim.Native.Nat.{ℕ, ◌+◌, ◌-◌, ◌≤◌, ◌<◌}
 use native.Mathlib.Omega.{arith}
 use lib.Dec.{eqb, ltb}
-use lib.ListN.{length, length-append}
+use lib.ListN.{length, set, length-append}
 use borrow.Author.Tests.{eq-eqb, ne_eqb, lt-ltb, le-ltb}
+use Rattle.std.proofs.lemmas.List.{get_or-set_same, get_or-set_other}
+use Rattle.grammar.proofs.Logic.{below}
 use Rattle.grammar.specs.Token.{Token, atom, structure, symbol, number, quoted, as_written, doubled, spelling, structure_number}
 use Rattle.grammar.specs.Token.{opening, closing, semicolon, keyword_let, keyword_in, keyword_end}
 use Rattle.grammar.specs.Coded.{kind_of}
-use Rattle.rows.specs.Fields.{field, store, Within}
+use Rattle.rows.specs.declared.token.Token.{Token as Entry}
+use Rattle.rows.specs.declared.token.Kind.{Kind}
+use Rattle.rows.specs.declared.token.Kind.TheVariants.{Opening, Closing}
+use Rattle.rows.specs.Kinds.{kind_code}
+use Rattle.rows.specs.Fields.{TokenRow, token, blank, Within}
 use Rattle.rows.specs.Tokens.{place_of, size_of, structure_size}
-use Rattle.rows.proofs.Fields.{store_same, other-field, other_entry, store_length}
 use Rattle.scanner.specs.Scanning.{TokenStored}
 
 -- By the kind: the bytes of a quoted name stand between the quotes, and of brackets there are none.
@@ -47,39 +53,25 @@ size_by_lem (structure keyword_let) = refl
 size_by_lem (structure keyword_in) = refl
 size_by_lem (structure keyword_end) = refl
 
--- Three stores into one entry.
-module _
-    (K K₁ K₂ K₃ : List ℕ) (n k s z : ℕ) (w : Within 4 K n) (e₁ : K₁ ≡ store 4 0 K n k) (e₂ : K₂ ≡ store 4 1 K₁ n s)
-    (e₃ : K₃ ≡ store 4 2 K₂ n z)
-  where
-    in_first : Within 4 K₁ n
-    in_first = omega (arith, ap length e₁, store_length 4 0 K n k)
+-- Brackets have the kinds 4 and 5.
+pub bracket_bounds : (k : Kind) → (k ≡ Opening) ⊎ (k ≡ Closing) → (3 < kind_code k) × (kind_code k < 6)
+bracket_bounds k (inl e) = omega (arith, ap kind_code e)
+bracket_bounds k (inr e) = omega (arith, ap kind_code e)
 
-    in_second : Within 4 K₂ n
-    in_second = omega (arith, in_first, ap length e₂, store_length 4 1 K₁ n s)
+-- An entry of the row is stored.
+module _ (K : TokenRow) (n : ℕ) (x : Entry) (w : Within K n) where
+  there : token (set K n x) n ≡ x
+  there = get_or-set_same K n x blank w.1
 
-    -- What each store leaves, and what it keeps.
-    after : (l j : ℕ) {K' K'' : List ℕ} → K'' ≡ K' → field 4 l K'' j ≡ field 4 l K' j
-    after l j e = ap (λ R. field 4 l R j) e
-
-    kept_all : (l j : ℕ) → l < 4 → j < n → field 4 l K₃ j ≡ field 4 l K j
-    kept_all l j h g =
-        after l j e₃ ∙ other_entry 4 2 l K₂ n j z (omega arith) h (λ e. omega arith)
-        ∙ after l j e₂ ∙ other_entry 4 1 l K₁ n j s (omega arith) h (λ e. omega arith)
-        ∙ after l j e₁ ∙ other_entry 4 0 l K n j k (omega arith) h (λ e. omega arith)
-
-    pub token_stored : (t : Token) (at : ℕ) → kind_of t ≡ k → place_of t at ≡ s → size_of t ≡ z → TokenStored K K₃ n at t
-    token_stored t at p q r = record {
-      kinds =
-          after 0 n e₃ ∙ other-field 4 2 0 K₂ n n z (omega arith) (omega arith) (λ e. omega arith)
-          ∙ after 0 n e₂ ∙ other-field 4 1 0 K₁ n n s (omega arith) (omega arith) (λ e. omega arith)
-          ∙ after 0 n e₁ ∙ store_same 4 0 K n k (omega arith) w ∙ sym p;
-      starts =
-          after 1 n e₃ ∙ other-field 4 2 1 K₂ n n z (omega arith) (omega arith) (λ e. omega arith)
-          ∙ after 1 n e₂ ∙ store_same 4 1 K₁ n s (omega arith) in_first ∙ sym q;
-      sizes = after 2 n e₃ ∙ store_same 4 2 K₂ n z (omega arith) in_second ∙ sym r;
-      kept = kept_all;
-    }
+  pub token_stored
+      : (t : Token) (at : ℕ) → kind_of t ≡ kind_code x.kind → place_of t at ≡ x.start → size_of t ≡ x.size
+      → TokenStored K (set K n x) n at t
+  token_stored t at p q r = record {
+    kinds = ap (λ y. kind_code y.kind) there ∙ sym p;
+    starts = ap (λ y. y.start) there ∙ sym q;
+    sizes = ap (λ y. y.size) there ∙ sym r;
+    kept = λ j h. get_or-set_other K n j x blank (λ e. omega arith);
+  }
 
 -- The place and the size that the code stores.
 module _ (t : Token) {k m : ℕ} (at : ℕ) (p : kind_of t ≡ k) (q : length (spelling t) ≡ m) where
@@ -99,11 +91,14 @@ module _ (t : Token) {k m : ℕ} (at : ℕ) (p : kind_of t ≡ k) (q : length (s
     pub other_place : place_of t at ≡ at
     other_place = by_kind ∙ rw (ne_eqb k 3 f, place_by)
 
-    pub low_size : k < 3 → size_of t ≡ m
+    low_size : k < 3 → size_of t ≡ m
     low_size l = by_size ∙ rw (size_by, ne_eqb k 3 f, lt-ltb k 3 l)
 
     pub bracket_size : 3 ≤ k → k < 6 → size_of t ≡ 0
     bracket_size l h = by_size ∙ rw (size_by, ne_eqb k 3 f, le-ltb k 3 l, lt-ltb k 6 h)
 
-    pub high_size : 3 ≤ k → 6 ≤ k → size_of t ≡ m
-    high_size l h = by_size ∙ rw (size_by, ne_eqb k 3 f, le-ltb k 3 l, le-ltb k 6 h)
+    high_size : 6 ≤ k → size_of t ≡ m
+    high_size h = by_size ∙ rw (size_by, ne_eqb k 3 f, le-ltb k 3 (omega arith), le-ltb k 6 h)
+
+    pub whole_size : (k ≡ 4 → ⊥) → (k ≡ 5 → ⊥) → size_of t ≡ m
+    whole_size g h = below k 3 low_size (λ l. high_size (omega arith))

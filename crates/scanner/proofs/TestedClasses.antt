@@ -1,70 +1,61 @@
--- Tests of a byte by its class, as it was looked up in the table.
--- A comparison of classes decides a test of the class; where a byte can stand in quotes, bounds and the class decide it.
+-- Tests of a byte by its class, as it was looked up in the table, and by bounds.
 use mathlib.Core.Path.{◌≡◌, refl, sym, ap, ◌∙◌}
 use mathlib.Core.Bool.{Bool, true, false, ◌||◌}
-use Prim.Native.Nat.{ℕ, zero, suc, ◌≤◌, ◌<◌}
+use mathlib.Core.Logic.{◌⊎◌, inl, inr}
+use Prim.Native.Nat.{ℕ, ◌≤◌, ◌<◌}
 use native.Mathlib.Omega.{arith}
 use lib.Dec.{eqb}
+use denote.Enum.Bare.{sameb}
 use borrow.Author.Tests.{le-leb, lt-leb, eq-eqb, ne_eqb, eqb-true, eqb-false}
 use Rattle.grammar.specs.Bytes.{member}
 use Rattle.grammar.specs.Token.{class, quote, is_blank_byte, in_word, in_quotes, is_quote}
 use Rattle.grammar.proofs.Taken.{solo}
-use Rattle.scanner.specs.Classes.{in_class}
+use Rattle.byte_classes.specs.declared.classes.Class.{Class}
+use Rattle.byte_classes.specs.declared.classes.Class.TheVariants.{
+  Blank,
+  Letter,
+  Digit,
+  Underscore,
+  Sign,
+  Quote,
+  Opening,
+  Closing,
+  Semicolon,
+  Other,
+}
+use Rattle.byte_classes.specs.contracts.classes.Class.{the_type}
+use Rattle.byte_classes.specs.Classes.{class_code}
+use Rattle.byte_classes.proofs.Codes.{same_code}
 
--- The classes 1 to 3 are those of words.
-word-class : (c : ℕ) → 1 ≤ c → c < 4 → eqb c 1 || eqb c 2 || eqb c 3 ≡ true
-word-class zero l m = absurd (omega arith)
-word-class (suc zero) l m = refl
-word-class (suc (suc zero)) l m = refl
-word-class (suc (suc (suc zero))) l m = refl
-word-class (suc (suc (suc (suc c)))) l m = absurd (omega arith)
+-- The classes of words.
+abbrev of_word : ℕ → Bool
+of_word c = eqb c 1 || eqb c 2 || eqb c 3
 
-module _ (b : ℕ) {c : ℕ} (e : c ≡ class b) where
-  pub in_class_lem : {k : ℕ} → c ≡ k → in_class k b ≡ true
-  unfolding in_class
-  in_class_lem i = eq-eqb (class b) _ (sym e ∙ i)
+word-class : (r : Class) → (r ≡ Letter) ⊎ ((r ≡ Digit) ⊎ (r ≡ Underscore)) → true ≡ of_word (class_code r)
+word-class r (inl e) = sym (ap (λ x. of_word (class_code x)) e)
+word-class r (inr (inl e)) = sym (ap (λ x. of_word (class_code x)) e)
+word-class r (inr (inr e)) = sym (ap (λ x. of_word (class_code x)) e)
 
-  pub not_in_class : {k : ℕ} → (c ≡ k → ⊥) → in_class k b ≡ false
-  unfolding in_class
-  not_in_class f = ne_eqb (class b) _ (λ i. f (e ∙ i))
+other-class : (r : Class) → (r ≡ Letter → ⊥) → (r ≡ Digit → ⊥) → (r ≡ Underscore → ⊥) → false ≡ of_word (class_code r)
+other-class Blank f g h = refl
+other-class Letter f g h = absurd (f refl)
+other-class Digit f g h = absurd (g refl)
+other-class Underscore f g h = absurd (h refl)
+other-class Sign f g h = refl
+other-class Quote f g h = refl
+other-class Opening f g h = refl
+other-class Closing f g h = refl
+other-class Semicolon f g h = refl
+other-class Other f g h = refl
 
-  pub a_blank : c ≡ 0 → is_blank_byte b ≡ true
-  unfolding is_blank_byte
-  a_blank i = eq-eqb (class b) 0 (sym e ∙ i)
-
-  pub no_blank : (c ≡ 0 → ⊥) → is_blank_byte b ≡ false
-  unfolding is_blank_byte
-  no_blank f = ne_eqb (class b) 0 (λ i. f (e ∙ i))
-
-  pub in_word_lem : 1 ≤ c → c < 4 → in_word b ≡ true
+module _ (b : ℕ) (r : Class) (e : class_code r ≡ class b) where
+  pub in_word_lem : (r ≡ Letter) ⊎ ((r ≡ Digit) ⊎ (r ≡ Underscore)) → true ≡ in_word b
   unfolding in_word
-  in_word_lem l m = word-class (class b) (omega (arith, e)) (omega (arith, e))
+  in_word_lem h = word-class r h ∙ ap of_word e
 
-  not_in_word : (class b ≡ 1 → ⊥) → (class b ≡ 2 → ⊥) → (class b ≡ 3 → ⊥) → in_word b ≡ false
+  pub not_in_word : (r ≡ Letter → ⊥) → (r ≡ Digit → ⊥) → (r ≡ Underscore → ⊥) → false ≡ in_word b
   unfolding in_word
-  not_in_word p q r = rw (ne_eqb (class b) 1 p, ne_eqb (class b) 2 q, ne_eqb (class b) 3 r, in_word)
-
-  pub before-word : c < 1 → in_word b ≡ false
-  before-word l = not_in_word (λ i. omega (arith, e)) (λ i. omega (arith, e)) (λ i. omega (arith, e))
-
-  pub behind-word : 4 ≤ c → in_word b ≡ false
-  behind-word l = not_in_word (λ i. omega (arith, e)) (λ i. omega (arith, e)) (λ i. omega (arith, e))
-
-  -- One byte has the class of the quote.
-  pub a_quote : c ≡ quote → b ≡ 39
-  a_quote i = (solo b).a_quote (sym e ∙ i)
-
-  pub no_quote : (c ≡ quote → ⊥) → b ≡ 39 → ⊥
-  unfolding class member
-  no_quote f i = f (e ∙ ap class i)
-
-  pub is_quote_lem : eqb c quote ≡ is_quote b
-  unfolding is_quote class member
-  is_quote_lem = go (eqb c quote) refl
-    where
-      go : (x : Bool) → eqb c quote ≡ x → eqb c quote ≡ is_quote b
-      go true i = i ∙ sym (eq-eqb b 39 (a_quote (eqb-true c quote i)))
-      go false i = i ∙ sym (ne_eqb b 39 (no_quote (eqb-false c quote i)))
+  not_in_word f g h = other-class r f g h ∙ ap of_word e
 
 module _ (b : ℕ) where
   pub in_quotes_lem : 32 ≤ b → b ≤ 126 → in_quotes b ≡ true
@@ -78,3 +69,21 @@ module _ (b : ℕ) where
   pub above_quotes : 126 < b → in_quotes b ≡ false
   unfolding in_quotes
   above_quotes l = rw (le-leb 32 b (omega arith), lt-leb b 126 l, in_quotes)
+
+-- A test for the class of blanks.
+pub blank_test : (b : ℕ) (r : Class) {t : Bool} → t ≡ sameb the_type r Blank → class_code r ≡ class b → t ≡ is_blank_byte b
+unfolding is_blank_byte
+blank_test b r e f = e ∙ same_code r Blank ∙ ap (λ n. eqb n 0) f
+
+-- One byte has the class of the quote.
+quote_class : (b : ℕ) → eqb (class b) quote ≡ is_quote b
+unfolding is_quote class member
+quote_class b = go (eqb (class b) quote) refl
+  where
+    go : (x : Bool) → eqb (class b) quote ≡ x → eqb (class b) quote ≡ is_quote b
+    go true i = i ∙ sym (eq-eqb b 39 ((solo b).a_quote (eqb-true (class b) quote i)))
+    go false i = i ∙ sym (ne_eqb b 39 (λ e. eqb-false (class b) quote i (ap class e)))
+
+-- A test for the class of the quote.
+pub quote_test : (b : ℕ) (r : Class) {t : Bool} → t ≡ sameb the_type r Quote → class_code r ≡ class b → t ≡ is_quote b
+quote_test b r e f = e ∙ same_code r Quote ∙ ap (λ n. eqb n quote) f ∙ quote_class b

@@ -8,38 +8,12 @@ use native.Mathlib.Omega.{arith}
 use lib.ListN.{length, take, drop, get_or}
 use lib.Seq.{drop-drop}
 use borrow.Author.Tests.{le-leb, lt-leb, ne_eqb}
-use Rattle.grammar.specs.Bytes.{Bytes, bytes, same}
+use Rattle.grammar.specs.Bytes.{Bytes}
 use Rattle.grammar.specs.Token.{Token, class, letter, digit, sign, quote, opens, closes, separates, longest_name}
-use Rattle.grammar.specs.Token.{is_quote, doubled, atom, quoted, structure_number}
-use Rattle.grammar.specs.Scan.{wrong, taken, run, keyword_or_symbol, at_most, characters_at, is_closed, quoted_name, quoted_with, front_of, front}
-use Rattle.grammar.specs.Coded.{kind_of}
+use Rattle.grammar.specs.Token.{is_quote, doubled, atom, quoted}
+use Rattle.grammar.specs.Scan.{wrong, taken, run, at_most, characters_at, is_closed, quoted_name, quoted_with, front_of, front}
 use Rattle.grammar.proofs.Runs.{Kind}
-use Rattle.byte_strings.proofs.Suffixes.{drop_next, run_step, same_length}
-
--- The kind of a word. Keywords have at most three bytes.
-module _ (w : Bytes) where
-  pub kind_let : same w (bytes "let") ≡ true → kind_of (keyword_or_symbol w) ≡ 7
-  unfolding keyword_or_symbol kind_of structure_number
-  kind_let e = rw (e, keyword_or_symbol)
-
-  module _ (e : same w (bytes "let") ≡ false) where
-    pub kind_in : same w (bytes "in") ≡ true → kind_of (keyword_or_symbol w) ≡ 8
-    unfolding keyword_or_symbol kind_of structure_number
-    kind_in h = rw (e, h, keyword_or_symbol)
-
-    module _ (h : same w (bytes "in") ≡ false) where
-      pub kind_end : same w (bytes "end") ≡ true → kind_of (keyword_or_symbol w) ≡ 9
-      unfolding keyword_or_symbol kind_of structure_number
-      kind_end g = rw (e, h, g, keyword_or_symbol)
-
-      pub kind_symbol : same w (bytes "end") ≡ false → kind_of (keyword_or_symbol w) ≡ 1
-      unfolding keyword_or_symbol kind_of structure_number
-      kind_symbol g = rw (e, h, g, keyword_or_symbol)
-
-  pub kind_long : 3 < length w → kind_of (keyword_or_symbol w) ≡ 1
-  kind_long l =
-      kind_symbol (same_length w (bytes "let") (λ e. omega arith)) (same_length w (bytes "in") (λ e. omega arith))
-      (same_length w (bytes "end") (λ e. omega arith))
+use Rattle.byte_strings.proofs.Suffixes.{drop_next, run_step}
 
 -- "4: word, sign or number too long"
 module _ (most n : ℕ) (t : Token) where

@@ -1,11 +1,30 @@
-// The table of the classes of bytes, one entry for each byte. The program `class_table` prints the constant as it stands here.
+// The class of a byte, looked up in a table with an entry for each byte. The program `class_table` prints the constant as it stands here.
+// That is why the entries are numbers: document 02, §12, has that program's output as the constant, and it is one of numbers.
 ghost use Rattle.std.specs.Prelude.{◌≡◌};
 ghost use Rattle.grammar.specs.Token.{class as class_of};
-ghost use Rattle.scanner.specs.Classes.{IsTable};
+ghost use Rattle.byte_classes.specs.Classes.{class_code};
 
-use byte_classes::{
-    BLANK, CLOSING, DIGIT, LETTER, OPENING, OTHER, QUOTE, SEMICOLON, SIGN, UNDERSCORE,
-};
+use byte_classes::classes::Class;
+
+const BLANK: u8 = Class::Blank as u8;
+
+const LETTER: u8 = Class::Letter as u8;
+
+const DIGIT: u8 = Class::Digit as u8;
+
+const UNDERSCORE: u8 = Class::Underscore as u8;
+
+const SIGN: u8 = Class::Sign as u8;
+
+const QUOTE: u8 = Class::Quote as u8;
+
+const OPENING: u8 = Class::Opening as u8;
+
+const CLOSING: u8 = Class::Closing as u8;
+
+const SEMICOLON: u8 = Class::Semicolon as u8;
+
+const OTHER: u8 = Class::Other as u8;
 
 const CLASSES: [u8; 256] = [
     OTHER, // 0
@@ -266,17 +285,24 @@ const CLASSES: [u8; 256] = [
     OTHER, // 255
 ];
 
-// The table. It is made anew by each call, so a service lends it from the top.
-pub fn table() -> [u8; 256]
-    ensures { IsTable result }
-{
-    CLASSES
-}
+// The constant in one place of memory, where it is read.
+static TABLE: [u8; 256] = CLASSES;
 
-// The class of a byte, looked up.
-pub fn class(table: &[u8; 256], b: u8) -> u8
-    requires { IsTable table.now }
-    ensures { result ≡ class_of b }
+// The class of a byte. No entry is another number, and that the last arm is not reached saves a test of the entry at each byte.
+pub fn class(b: u8) -> Class
+    ensures { class_code result ≡ class_of b }
 {
-    table[b as usize]
+    match TABLE[b as usize] {
+        BLANK => Class::Blank,
+        LETTER => Class::Letter,
+        DIGIT => Class::Digit,
+        UNDERSCORE => Class::Underscore,
+        SIGN => Class::Sign,
+        QUOTE => Class::Quote,
+        OPENING => Class::Opening,
+        CLOSING => Class::Closing,
+        SEMICOLON => Class::Semicolon,
+        OTHER => Class::Other,
+        _ => unreachable!(),
+    }
 }

@@ -2,125 +2,103 @@
 ghost use Rattle.std.specs.Prelude.{◌≡◌, ◌+◌, ◌<◌, length, drop};
 ghost use Rattle.grammar.specs.Scan.{taken, keyword_or_symbol, at_most, front, quoted_name};
 ghost use Rattle.grammar.specs.Coded.{kind_of};
-ghost use Rattle.scanner.specs.Classes.{IsTable};
+ghost use Rattle.rows.specs.Kinds.{kind_code};
 ghost use Rattle.scanner.specs.Scanning.{Fronts, OfKind};
 
 use crate::{classes, runs};
-use rows::kinds;
+use byte_classes::classes::Class;
+use refusals::Refusal;
+use rows::token::Kind;
 
 pub const MAX_NAME: usize = 63;
 
 pub const MAX_DIGITS: usize = 9;
 
-// Refusals 2, 3 and 4.
-pub const NO_TOKEN: u8 = 2;
-
-pub const BAD_QUOTED_NAME: u8 = 3;
-
-pub const TOO_LONG: u8 = 4;
-
-// What stands at a place: a token of a kind and of so many bytes, or a refusal.
-#[derive(Drop)]
-pub enum Front {
-    Refused { number: u8 },
-    Token { kind: u16, size: usize },
+// A token at the front of bytes: its kind, and how many bytes it has.
+#[derive(Clone, Copy)]
+pub struct Front {
+    pub kind: Kind,
+    pub size: usize,
 }
 
 // The kind of a word: a keyword's, or that of a symbol.
-pub fn word_kind(word: &[u8]) -> u16
-    ensures { result ≡ kind_of (keyword_or_symbol word.now) }
+#[tactic(auto, using(byte_strings::proofs::Equality::same_reads), unfolding(grammar::specs::Scan::keyword_or_symbol, grammar::specs::Coded::kind_of, grammar::specs::Token::structure_number))]
+pub fn word_kind(word: &[u8]) -> Kind
+    ensures { kind_code result ≡ kind_of (keyword_or_symbol word.now) }
 {
-    if 3 < word.len() {
-        return kinds::SYMBOL;
+    match word {
+        b"let" => Kind::Let,
+        b"in" => Kind::In,
+        b"end" => Kind::End,
+        _ => Kind::Symbol,
     }
-    if byte_strings::equal(word, b"let") {
-        return kinds::LET;
-    }
-    if byte_strings::equal(word, b"in") {
-        return kinds::IN;
-    }
-    if byte_strings::equal(word, b"end") {
-        return kinds::END;
-    }
-    kinds::SYMBOL
 }
 
 // A run of bytes as a token of a kind, if it is not too long.
-fn limited(kind: u16, size: usize, most: usize) -> Front
-    ensures { OfKind kind (at_most most size) result }
+fn limited(kind: Kind, size: usize, most: usize) -> Result<Front, Refusal>
+    ensures { OfKind (kind_code kind) (at_most most size) result }
 {
     if most < size {
-        return Front::Refused { number: TOO_LONG };
+        return Err(Refusal::TokenTooLong);
     }
-    Front::Token { kind, size }
+    Ok(Front { kind, size })
 }
 
-// The quoted name whose opening quote stands at `at`: `n` characters, which end at `e`, and `written` bytes.
-fn quoted(table: &[u8; 256], text: &[u8], at: usize) -> Front
-    requires { IsTable table.now × (at < length text.now) }
+// The quoted name whose opening quote stands at `at`.
+fn quoted(text: &[u8], at: usize) -> Result<Front, Refusal>
+    requires { at < length text.now }
     ensures { Fronts (quoted_name (drop (at + 1) text.now)) result }
 {
+    // `n` characters, which end at `e`. A character has one byte or two, so the place moves on by what is found and this is no `for`.
     let mut n: usize = 0;
     let mut e = at + 1;
-    let mut next = runs::character_end(table, text, e);
+    let mut next = runs::character_end(text, e);
     while e < next {
         n += 1;
         e = next;
-        next = runs::character_end(table, text, e);
+        next = runs::character_end(text, e);
     }
     let written = e - at - 1;
-    if n < 1 {
-        return Front::Refused {
-            number: BAD_QUOTED_NAME,
-        };
+    if !(1..=MAX_NAME).contains(&n) || !runs::is_quote(text, e) {
+        return Err(Refusal::BadQuotedName);
     }
-    if MAX_NAME < n {
-        return Front::Refused {
-            number: BAD_QUOTED_NAME,
-        };
-    }
-    if runs::is_quote(table, text, e) {
-        return Front::Token {
-            kind: kinds::QUOTED,
-            size: written + 2,
-        };
-    }
-    Front::Refused {
-        number: BAD_QUOTED_NAME,
-    }
+    Ok(Front {
+        kind: Kind::Quoted,
+        size: written + 2,
+    })
 }
 
 // A token of one byte.
-fn solo(kind: u16) -> Front
-    ensures { OfKind kind (λ t. taken t 1) result }
+fn solo(kind: Kind) -> Result<Front, Refusal>
+    ensures { OfKind (kind_code kind) (λ t. taken t 1) result }
 {
-    Front::Token { kind, size: 1 }
+    Ok(Front { kind, size: 1 })
 }
 
 // The token at `at`, where a byte stands.
-pub fn front_at(table: &[u8; 256], text: &[u8], at: usize) -> Front
-    requires { IsTable table.now × (at < length text.now) }
+pub fn front_at(text: &[u8], at: usize) -> Result<Front, Refusal>
+    requires { at < length text.now }
     ensures { Fronts (front (drop at text.now)) result }
 {
-    match classes::class(table, text[at]) {
-        byte_classes::LETTER => {
-            let e = runs::word_end(table, text, at + 1);
+    match classes::class(text[at]) {
+        Class::Letter => {
+            let e = runs::word_end(text, at + 1);
             limited(word_kind(&text[at..e]), e - at, MAX_NAME)
         }
-        byte_classes::DIGIT => limited(
-            kinds::NUMBER,
-            runs::run_end(table, text, at + 1, byte_classes::DIGIT) - at,
+        Class::Digit => limited(
+            Kind::Number,
+            runs::run_end(text, at + 1, Class::Digit) - at,
             MAX_DIGITS,
         ),
-        byte_classes::SIGN => limited(
-            kinds::SYMBOL,
-            runs::run_end(table, text, at + 1, byte_classes::SIGN) - at,
+        Class::Sign => limited(
+            Kind::Symbol,
+            runs::run_end(text, at + 1, Class::Sign) - at,
             MAX_NAME,
         ),
-        byte_classes::QUOTE => quoted(table, text, at),
-        byte_classes::OPENING => solo(kinds::OPENING),
-        byte_classes::CLOSING => solo(kinds::CLOSING),
-        byte_classes::SEMICOLON => solo(kinds::SEMICOLON),
-        _ => Front::Refused { number: NO_TOKEN },
+        Class::Quote => quoted(text, at),
+        Class::Opening => solo(Kind::Opening),
+        Class::Closing => solo(Kind::Closing),
+        Class::Semicolon => solo(Kind::Semicolon),
+        _ => Err(Refusal::NoToken),
     }
 }

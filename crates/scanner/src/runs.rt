@@ -2,102 +2,95 @@
 ghost use Rattle.std.specs.Prelude.{◌≡◌, ◌+◌, drop, get_or};
 ghost use Rattle.grammar.specs.Token.{in_word, is_quote};
 ghost use Rattle.grammar.specs.Scan.{run};
-ghost use Rattle.scanner.specs.Classes.{IsTable, in_class};
+ghost use Rattle.byte_classes.specs.Classes.{class_code};
+ghost use Rattle.scanner.specs.Classes.{in_class};
 ghost use Rattle.scanner.specs.Scanning.{first_size};
 ghost use Rattle.scanner.specs.Places.{token_end, blanks_end};
 
 use crate::classes;
+use byte_classes::classes::Class;
 
-// Where the bytes of a class from `at` on end.
-pub fn run_end(table: &[u8; 256], text: &[u8], at: usize, class: u8) -> usize
-    requires { IsTable table.now }
-    ensures { result ≡ at + run (in_class class) (drop at text.now) }
+fn is_in(class: Class, b: u8) -> bool
+    ensures { result ≡ in_class (class_code class) b }
 {
-    let mut i = at;
-    while i < text.len() {
-        if classes::class(table, text[i]) != class {
-            return i;
-        }
-        i += 1;
-    }
-    i
+    classes::class(b) == class
 }
 
-// Where the letters, digits and underscores from `at` on end.
-pub fn word_end(table: &[u8; 256], text: &[u8], at: usize) -> usize
-    requires { IsTable table.now }
-    ensures { result ≡ at + run in_word (drop at text.now) }
+fn is_in_word(b: u8) -> bool
+    ensures { result ≡ in_word b }
 {
-    let mut i = at;
-    while i < text.len() {
-        match classes::class(table, text[i]) {
-            byte_classes::LETTER | byte_classes::DIGIT | byte_classes::UNDERSCORE => {
-                i += 1;
-            }
-            _ => {
-                return i;
-            }
+    matches!(
+        classes::class(b),
+        Class::Letter | Class::Digit | Class::Underscore
+    )
+}
+
+// Where the bytes of a class from `at` on end. (Tried: a chain with `take_while` and `count` costs five to seven instructions more for each
+// token, here and in `word_end`.)
+pub fn run_end(text: &[u8], at: usize, class: Class) -> usize
+    ensures { result ≡ at + run (in_class (class_code class)) (drop at text.now) }
+{
+    for i in at..text.len() {
+        if !is_in(class, text[i]) {
+            return i;
         }
     }
-    i
+    at.max(text.len())
+}
+
+// Where the letters, digits and underscores from `at` on end. They are of three classes, so this is no call of `run_end`, and a test that is
+// handed on would be no shorter.
+pub fn word_end(text: &[u8], at: usize) -> usize
+    ensures { result ≡ at + run in_word (drop at text.now) }
+{
+    for i in at..text.len() {
+        if !is_in_word(text[i]) {
+            return i;
+        }
+    }
+    at.max(text.len())
 }
 
 // Where the blanks from `at` on end.
-pub fn blanks_end<'a>(table: &'a [u8; 256], text: &'a [u8], at: usize) -> usize
-    requires { IsTable table.now }
+pub fn blanks_end(text: &[u8], at: usize) -> usize
     ensures { result ≡ blanks_end text.now at }
 {
-    run_end(table, text, at, byte_classes::BLANK)
+    run_end(text, at, Class::Blank)
 }
 
 // Where the token that begins at `at` ends, if it is no quoted name. Behind the text `at` itself.
-pub fn token_end<'a>(table: &'a [u8; 256], text: &'a [u8], at: usize) -> usize
-    requires { IsTable table.now }
+pub fn token_end(text: &[u8], at: usize) -> usize
     ensures { result ≡ token_end text.now at }
 {
     if text.len() <= at {
         return at;
     }
-    match classes::class(table, text[at]) {
-        byte_classes::LETTER => word_end(table, text, at + 1),
-        byte_classes::DIGIT => run_end(table, text, at + 1, byte_classes::DIGIT),
-        byte_classes::SIGN => run_end(table, text, at + 1, byte_classes::SIGN),
+    match classes::class(text[at]) {
+        Class::Letter => word_end(text, at + 1),
+        Class::Digit => run_end(text, at + 1, Class::Digit),
+        Class::Sign => run_end(text, at + 1, Class::Sign),
         _ => at + 1,
     }
 }
 
 // Whether a quote stands at `at`. Behind the text stands none.
-pub fn is_quote(table: &[u8; 256], text: &[u8], at: usize) -> bool
-    requires { IsTable table.now }
+pub fn is_quote(text: &[u8], at: usize) -> bool
     ensures { result ≡ is_quote (get_or text.now at 0) }
 {
-    if at < text.len() {
-        return classes::class(table, text[at]) == byte_classes::QUOTE;
+    match text.get(at) {
+        Some(b) => classes::class(*b) == Class::Quote,
+        None => false,
     }
-    false
 }
 
 // Where the character of a quoted name at `at` ends: behind a pair of quotes, or behind another byte from 32 to 126. `at` itself where
 // none stands.
-pub fn character_end(table: &[u8; 256], text: &[u8], at: usize) -> usize
-    requires { IsTable table.now }
+pub fn character_end(text: &[u8], at: usize) -> usize
     ensures { result ≡ at + first_size (drop at text.now) }
 {
-    if text.len() <= at {
-        return at;
+    match text.get(at) {
+        Some(_) if is_quote(text, at) => { if is_quote(text, at + 1) { at + 2 } else { at } }
+        Some(b' '..=b'~') => at + 1,
+        _ => at,
     }
-    if is_quote(table, text, at) {
-        if is_quote(table, text, at + 1) {
-            return at + 2;
-        }
-        return at;
-    }
-    let b = text[at];
-    if b < 32 {
-        return at;
-    }
-    if 126 < b {
-        return at;
-    }
-    at + 1
 }

@@ -9,12 +9,6 @@ use Rattle.calls.specs.declared.Format.{Format}
 use Rattle.calls.specs.declared.Call.{Call}
 use Rattle.calls.specs.Calls.{taken, text_taken, taken_all, text_taken_all}
 
-pub none_taken
-    : (f : Format) (text : List ℕ) (call : Call) (s : List ℕ)
-    → (call ≡ taken_all f text call (take 0 s)) × (text ≡ text_taken_all f text call (take 0 s))
-unfolding taken_all text_taken_all
-none_taken f text call s = (refl, refl)
-
 taken_push
     : (f : Format) (text : List ℕ) (call : Call) (s : List ℕ) (b : ℕ)
     → (taken_all f text call (s ++ b ∷ []) ≡ taken f (text_taken_all f text call s) (taken_all f text call s) b)

@@ -40,10 +40,6 @@ module _ (text : List ℕ) (call : Call) where
   unfolding end_gives
   empty_end h = rw (h, end_gives) refl
 
-pub none_given : (f : Format) (text : List ℕ) (call : Call) (s : List ℕ) → part_gives f text call (take 0 s) ≡ []
-unfolding part_gives
-none_given f text call s = refl
-
 given_push
     : (f : Format) (text : List ℕ) (call : Call) (s : List ℕ) (b : ℕ)
     → part_gives f text call (s ++ b ∷ [])

@@ -2,12 +2,13 @@
 use mathlib.Core.Path.{◌≡◌, refl, sym, ap, ◌∙◌}
 use mathlib.Core.Bool.{Bool, true, false, not}
 use mathlib.Core.List.{List, [], ◌∷◌, ◌++◌, append_assoc, append-nil}
-use mathlib.Core.Option.{Option, none, some}
 use Prim.Native.Nat.{ℕ, ◌+◌, ◌*◌}
 use native.Mathlib.Omega.{arith}
 use borrow.Author.Tests.{eqb-true, eqb-false, ltb-true, ltb-false, ne_eqb}
 use lib.Dec.{eqb, ltb}
 use lib.ListN.{length, set, length-set}
+use Rattle.std.specs.Prelude.{None, Some}
+use Rattle.std.specs.declared.option.Option.{Option}
 use Rattle.grammar.specs.Bytes.{Bytes}
 use Rattle.hex_lines.specs.declared.lines.Line.{Line}
 use Rattle.hex_lines.specs.Hexadecimal as hex
@@ -26,53 +27,27 @@ use Rattle.service_lines.proofs.Gives.{at_end, within, begun_end, empty_end}
 
 -- Behind a digit the line has a character, and the text its length.
 module _ (text : List ℕ) (l : Line) (b : ℕ) where
-  module _ (e : eqb (hex.digit_value b) 16 ≡ true) where
-    no_digit_text : hex.text_after text l b ≡ text
-    unfolding hex.text_after
-    no_digit_text = rw (e, hex.text_after) refl
-
-    no_digit_begun : (hex.after (length text) l b).begun ≡ true
-    unfolding hex.after
-    no_digit_begun = rw (e, hex.after) refl
-
-  module _ (e : eqb (hex.digit_value b) 16 ≡ false) where
-    first_digit_text : eqb l.high 16 ≡ true → hex.text_after text l b ≡ text
-    unfolding hex.text_after
-    first_digit_text f = rw (e, f, hex.text_after) refl
-
-    second_digit_text : eqb l.high 16 ≡ false → hex.text_after text l b ≡ set text l.kept (l.high * 16 + hex.digit_value b)
-    unfolding hex.text_after
-    second_digit_text f = rw (e, f, hex.text_after) refl
-
-    first_digit_begun : eqb l.high 16 ≡ true → (hex.after (length text) l b).begun ≡ true
-    unfolding hex.after
-    first_digit_begun f = rw (e, f, hex.after) refl
-
-    second_digit_begun : eqb l.high 16 ≡ false → (hex.after (length text) l b).begun ≡ true
-    unfolding hex.after
-    second_digit_begun f = rw (e, f, hex.after) refl
-
   digit_length : length (hex.text_after text l b) ≡ length text
-  digit_length = go (eqb (hex.digit_value b) 16) refl (eqb l.high 16) refl
+  unfolding hex.text_after
+  digit_length = go (hex.digit_value b) refl l.high refl
     where
-      go
-          : (x : Bool) → eqb (hex.digit_value b) 16 ≡ x → (y : Bool) → eqb l.high 16 ≡ y
-          → length (hex.text_after text l b) ≡ length text
-      go true e y f = ap length (no_digit_text e)
-      go false e true f = ap length (first_digit_text e f)
-      go false e false f = ap length (second_digit_text e f) ∙ length-set text l.kept (l.high * 16 + hex.digit_value b)
+      go : (x : Option ℕ) → hex.digit_value b ≡ x → (y : Option ℕ) → l.high ≡ y → length (hex.text_after text l b) ≡ length text
+      go None e y f = rw (e, hex.text_after) refl
+      go (Some low) e None f = rw (e, f, hex.text_after) refl
+      go (Some low) e (Some high) f = rw (e, f, hex.text_after) (length-set text l.kept (high * 16 + low))
 
   digit_begun : (hex.after (length text) l b).begun ≡ true
-  digit_begun = go (eqb (hex.digit_value b) 16) refl (eqb l.high 16) refl
+  unfolding hex.after
+  digit_begun = go (hex.digit_value b) refl l.high refl
     where
-      go : (x : Bool) → eqb (hex.digit_value b) 16 ≡ x → (y : Bool) → eqb l.high 16 ≡ y → (hex.after (length text) l b).begun ≡ true
-      go true e y f = no_digit_begun e
-      go false e true f = first_digit_begun e f
-      go false e false f = second_digit_begun e f
+      go : (x : Option ℕ) → hex.digit_value b ≡ x → (y : Option ℕ) → l.high ≡ y → (hex.after (length text) l b).begun ≡ true
+      go None e y f = rw (e, hex.after) refl
+      go (Some low) e None f = rw (e, f, hex.after) refl
+      go (Some low) e (Some high) f = rw (e, f, hex.after) refl
 
 start_begun : (o : Option Service) → begun_by (start o) ≡ true
-start_begun none = refl
-start_begun (some s) = refl
+start_begun None = refl
+start_begun (Some s) = refl
 
 more_begun : (n : ℕ) → begun_by (Name (n + 1)) ≡ true
 more_begun n = ap not (ne_eqb (n + 1) 0 (λ h. omega arith))

@@ -1,7 +1,7 @@
 -- A turn of the loop that reads: what is printed so far and what the rest of the input gives are together what the whole input gives.
 use mathlib.Core.Path.{◌≡◌, refl, sym, ap, ◌∙◌, subst}
 use mathlib.Core.List.{List, [], ◌∷◌, ◌++◌, append_assoc}
-use Prim.Native.Nat.{ℕ, ◌+◌, ◌-◌, ◌<◌}
+use Prim.Native.Nat.{ℕ, ◌+◌, ◌-◌, ◌^◌, ◌≤◌, ◌<◌}
 use native.Mathlib.Omega.{arith}
 use lib.ListN.{length, length-append}
 use Rattle.std.specs.Prelude.{None, Some}
@@ -14,16 +14,17 @@ use Rattle.calls.specs.declared.Call.{Call}
 use Rattle.service_lines.specs.Parts.{part_gives, end_gives, rest_gives, TakesSome, TakesNone}
 use Rattle.service_lines.proofs.Gives.{rest_behind, rest_none}
 
--- How far the loop has come: the bytes `rest` are left, fewer than turns are, and what is printed so far and what they give is `whole`.
+-- How far the loop has come in `turns` turns: the bytes `rest` are left, fewer than turns are, and what is printed so far and what they
+-- give is `whole`.
 abbrev pub Reached : Format → Bytes → List ℕ → Call → ℕ → Option (List ℕ) → Option (List ℕ) → Option (List ℕ) → Type 0
 Reached f whole text call turns left first held =
-    (rest : List ℕ) × (left ≡ Some rest) × (length rest < turns) × (done : Bytes) × Appends first held done
+    (rest : List ℕ) × (left ≡ Some rest) × (length rest + turns < 2 ^ 64 - 1) × (done : Bytes) × Appends first held done
     × (done ++ rest_gives f text call rest ≡ whole)
 
 pub reached_first
-    : (f : Format) (text : List ℕ) (call : Call) (turns : ℕ) (left held : Option (List ℕ)) (bs : List ℕ) → left ≡ Some bs → length bs < turns
-    → Reached f (rest_gives f text call bs) text call turns left held held
-reached_first f text call turns left held bs e h = (bs, e, h, [], Appends-nil held, refl)
+    : (f : Format) (text : List ℕ) (call : Call) (left held : Option (List ℕ)) (bs : List ℕ) → left ≡ Some bs → length bs < 2 ^ 64 - 1
+    → Reached f (rest_gives f text call bs) text call 0 left held held
+reached_first f text call left held bs e h = (bs, e, omega arith, [], Appends-nil held, refl)
 
 -- What a reader has left that had `rest`.
 left_of
@@ -38,7 +39,7 @@ positive (b ∷ s) h = omega arith
 pub reached_next
     : (f : Format) (whole : Bytes) (text text' : List ℕ) (call call' : Call) (turns : ℕ) (left left' first held held' : Option (List ℕ))
     → Reached f whole text call turns left first held → TakesSome f text text' call call' left left' held held'
-    → Reached f whole text' call' (turns - 1) left' first held'
+    → Reached f whole text' call' (turns + 1) left' first held'
 reached_next f whole text text' call call' turns left left' first held held' r t =
     let (rest, is, fewer, done, printed, equal) = r in
     let (part, some, consumed, given, line, bytes) = t in
@@ -66,5 +67,5 @@ reached_last f whole text call turns left left' first held held' r t =
 
 pub reached_none
     : (f : Format) (whole : Bytes) (text : List ℕ) (call : Call) (turns : ℕ) (left first held : Option (List ℕ))
-    → Reached f whole text call turns left first held → turns ≡ 0 → ⊥
+    → Reached f whole text call turns left first held → 2 ^ 64 - 1 ≤ turns → ⊥
 reached_none f whole text call turns left first held r h = let (rest, is, fewer, done, printed, equal) = r in omega arith

@@ -1,2 +1,3 @@
 pub mod Printed
 pub mod Parts
+pub mod Sound

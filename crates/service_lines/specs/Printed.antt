@@ -1,6 +1,5 @@
 -- What the services print for their input: a line at a time, what the line asks for.
-use Rattle.std.specs.Prelude.{true, false, [], ◌∷◌, ◌++◌, ℕ, eqb}
-use Rattle.std.proofs.Math.Option.{none, some}
+use Rattle.std.specs.Prelude.{true, false, [], ◌∷◌, ◌++◌, ℕ, eqb, None, Some}
 use Rattle.grammar.specs.Bytes.{Bytes, bytes}
 use Rattle.grammar.specs.Answer as G
 use Rattle.grammar.specs.Listing.{newline, printed}
@@ -27,8 +26,8 @@ given_by Locate t = outcome_text (bytes "read") (located t) ++ newline
 
 -- What is printed for what a line asks for.
 abbrev pub given : Asked → Bytes
-given none = bytes "bad line" ++ newline
-given (some a) = given_by a.0 a.1
+given None = bytes "bad line" ++ newline
+given (Some a) = given_by a.0 a.1
 
 -- What is printed for a line with these characters.
 unfoldable pub given_for : Format → Bytes → Bytes

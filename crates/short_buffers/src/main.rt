@@ -19,10 +19,8 @@ fn fill(buffer: &mut [u8])
     ensures buffer_len_unchanged { length buffer.new ≡ length buffer.old }
     ensures by_index { (k : ℕ) → k < length buffer.new → get_or buffer.new k 0 ≡ 200 + k }
 {
-    let mut i: usize = 0;
-    while i < buffer.len() {
-        buffer[i] = 200 + i as u8;
-        i += 1;
+    for (i, byte) in buffer.iter_mut().enumerate() {
+        *byte = 200 + i as u8;
     }
 }
 
@@ -33,10 +31,8 @@ fn widen(bytes: &[u8], words: &mut [u32])
     ensures by_index { (k : ℕ) → k < length bytes.now
         → get_or words.new k 0 ≡ get_or bytes.now k 0 }
 {
-    let mut i: usize = 0;
-    while i < bytes.len() {
-        words[i] = bytes[i] as u32;
-        i += 1;
+    for (i, byte) in bytes.iter().enumerate() {
+        words[i] = *byte as u32;
     }
 }
 
@@ -44,90 +40,14 @@ fn widen(bytes: &[u8], words: &mut [u32])
 fn first_changed(words: &[u32], from: usize) -> usize
     requires { length words.now ≤ 56 }
     ensures by_index { (k : ℕ) → k < result → from ≤ k → get_or words.now k 0 ≡ 200 + k }
-    ensures fact { result < length words.now → get_or words.now result 0 ≡ 200 + result → ⊥ }
+    ensures changed { result < length words.now → get_or words.now result 0 ≡ 200 + result → ⊥ }
 {
-    let mut i = from;
-    while i < words.len() {
-        if words[i] != 200 + i as u32 {
+    for (i, word) in words.iter().enumerate() {
+        if from <= i && *word != 200 + i as u32 {
             return i;
         }
-        i += 1;
     }
     words.len()
-}
-
-// Prints what a run gave: `len` is the buffer's length, and words from `kept` on must have kept their contents.
-fn report<W: Write>(
-    out: &mut W,
-    text: &[u8],
-    len: usize,
-    unit: &[u8],
-    word: &[u8],
-    a: Answer,
-    words: &[u32],
-    kept: usize,
-) -> io::Result<()>
-    requires word_len_bound { length word.now ≤ 4 }
-    requires words_len_bound { length words.now ≤ 56 }
-{
-    out.write_all(text)?;
-    write!(out, ", {len}")?;
-    out.write_all(unit)?;
-    listing::print_answer(out, word, a)?;
-    let changed = first_changed(words, kept);
-    if changed == words.len() {
-        return out.write_all(b", rest unchanged\n");
-    }
-    writeln!(out, ", changed at {changed}")
-}
-
-// Reads a text into the first `len` words of a table. A refusal has count 0, so then all words must keep their contents.
-fn read_into<W: Write>(out: &mut W, text: &[u8], len: usize) -> io::Result<()>
-    requires { len ≤ room }
-{
-    let mut bytes = [0u8; ROOM];
-    fill(&mut bytes);
-    let mut table = [0u32; ROOM];
-    widen(&bytes, &mut table);
-    let a = reader::read(text, &mut table[..len]);
-    report(
-        out,
-        text,
-        len,
-        b" words: ",
-        b"read",
-        a,
-        &table,
-        a.count * node::WORDS,
-    )
-}
-
-// Writes into a buffer the characters of the name at the first node of a text, or the canonical text.
-fn write(text: &[u8], name: bool, buffer: &mut [u8]) -> Answer {
-    if name {
-        let mut table = [0u32; ROOM];
-        reader::read(text, &mut table);
-        return reader::write_name(text, &table, 0, buffer);
-    }
-    reader::canonicalize(text, buffer)
-}
-
-// Writes it into the first `len` bytes of a buffer.
-fn write_into<W: Write>(
-    out: &mut W,
-    text: &[u8],
-    name: bool,
-    word: &[u8],
-    len: usize,
-) -> io::Result<()>
-    requires { (len ≤ room) × (length word.now ≤ 4) }
-{
-    let mut buffer = [0u8; ROOM];
-    fill(&mut buffer);
-    let a = write(text, name, &mut buffer[..len]);
-    let mut words = [0u32; ROOM];
-    widen(&buffer, &mut words);
-    report(out, text, len, b" bytes: ", word, a, &words, a.count)
 }
 
 #[derive(Clone, Copy)]
@@ -137,14 +57,79 @@ enum Service {
     WriteName,
 }
 
-// Runs a service with a buffer of `len` words or bytes.
+impl Service {
+    // The word of an answer that is no refusal.
+    fn word(self) -> &'static str {
+        match self {
+            Service::Read => "read",
+            Service::Canonicalize => "tidy",
+            Service::WriteName => "name",
+        }
+    }
+
+    // What the length of a lent buffer counts.
+    fn unit(self) -> &'static str {
+        match self {
+            Service::Read => "words",
+            Service::Canonicalize | Service::WriteName => "bytes",
+        }
+    }
+}
+
+// Prints what a run gave: `len` is the buffer's length, and words from `kept` on must have kept their contents.
+fn report<W: Write>(
+    out: &mut W,
+    service: Service,
+    text: &[u8],
+    len: usize,
+    a: Answer,
+    words: &[u32],
+    kept: usize,
+) -> io::Result<()>
+    requires { length words.now ≤ 56 }
+{
+    out.write_all(text)?;
+    let unit = service.unit();
+    write!(out, ", {len} {unit}: ")?;
+    listing::print_answer(out, service.word().as_bytes(), a)?;
+    let changed = first_changed(words, kept);
+    if changed == words.len() {
+        return writeln!(out, ", rest unchanged");
+    }
+    writeln!(out, ", changed at {changed}")
+}
+
+// Writes into a buffer the characters of the name at the first node of a text.
+fn write_name(text: &[u8], buffer: &mut [u8]) -> Answer {
+    let mut table = [0u32; ROOM];
+    reader::read(text, &mut table);
+    reader::write_name(text, &table, 0, buffer)
+}
+
+// Runs a service with a buffer of `len` words or bytes, the first of a table or of a buffer of bytes, whose contents are then widened to words.
+// A refusal has count 0, so then all words must keep their contents.
 fn run_into<W: Write>(out: &mut W, service: Service, text: &[u8], len: usize) -> io::Result<()>
     requires { len ≤ room }
 {
+    let mut bytes = [0u8; ROOM];
+    fill(&mut bytes);
+    let mut words = [0u32; ROOM];
     match service {
-        Service::Read => read_into(out, text, len),
-        Service::Canonicalize => write_into(out, text, false, b"tidy", len),
-        Service::WriteName => write_into(out, text, true, b"name", len),
+        Service::Read => {
+            widen(&bytes, &mut words);
+            let a = reader::read(text, &mut words[..len]);
+            report(out, service, text, len, a, &words, a.count * node::WORDS)
+        }
+        Service::Canonicalize => {
+            let a = reader::canonicalize(text, &mut bytes[..len]);
+            widen(&bytes, &mut words);
+            report(out, service, text, len, a, &words, a.count)
+        }
+        Service::WriteName => {
+            let a = write_name(text, &mut bytes[..len]);
+            widen(&bytes, &mut words);
+            report(out, service, text, len, a, &words, a.count)
+        }
     }
 }
 

@@ -1,5 +1,5 @@
 pub mod Numbers
+pub mod NameSearch
 pub mod NameSizes
 pub mod Roles
 pub mod NotedTokens
-pub mod ReservedNumbers

@@ -9,36 +9,31 @@ use Prim.Native.Nat.{ℕ, zero, suc, ◌≤◌, ◌<◌}
 use native.Mathlib.Omega.{arith}
 use lib.Dec.{eqb}
 use lib.ListN.{length}
-use borrow.Author.Tests.{eqb-true, eqb-false}
+use borrow.Author.Tests.{eqb-true, eqb-false, lt-ltb, le-ltb}
 use Rattle.grammar.specs.Bytes.{Bytes, same}
 use Rattle.grammar.specs.Operator.{Fixity, Operator, Table, role, replaced, same_fixity, declare_role, listed, Distinct}
 use Rattle.grammar.specs.Declaration.{most_operators, value, value_from, declare, declare_all, start_declarations, start_table}
-use Rattle.grammar.proofs.Logic.{and_left, and_right, clash, same_eq, same_refl}
+use Rattle.grammar.proofs.Logic.{and_left, and_right, clash, impossible, same_eq, same_refl}
 use Rattle.grammar.proofs.Operators.{other_sym, distinct_start}
-use Rattle.starting_operators.specs.Starting.{number_in, name_of, roles_at, start_number, start_name, start_roles, start_count, Unnumbered}
+use Rattle.std.specs.Prelude.{Some, None}
+use Rattle.starting_operators.specs.Starting.{
+  number_in,
+  name_of,
+  roles_at,
+  start_number,
+  start_name,
+  start_roles,
+  start_count,
+  Unnumbered,
+  found_number,
+}
 
 -- The number of a name, or how many operators there are.
 abbrev pub IsNumber : Table → Bytes → ℕ → Type 0
 IsNumber T name n = (n ≡ length T) ⊎ ((n < length T) × (name ≡ name_of T n))
 
 module _ (name : Bytes) where
-  -- The number of a name that no operator has ..
-  number_none : (T : Table) → ((j : ℕ) → j < length T → same name (name_of T j) ≡ false) → number_in T name ≡ length T
-  unfolding number_in name_of
-  number_none [] d = refl
-  number_none (o ∷ T) d = rw (d 0 (omega arith), number_in) (ap suc (number_none T (λ j h. d (suc j) (omega arith))))
-
-  -- .. of one that operator `k` has, and none before it ..
-  number_first :
-      (T : Table) (k : ℕ) → k < length T → ((j : ℕ) → j < k → same name (name_of T j) ≡ false) → same name (name_of T k) ≡ true
-      → number_in T name ≡ k
-  unfolding number_in name_of
-  number_first [] k h d e = absurd (omega arith)
-  number_first (o ∷ T) zero h d e = rw (e, number_in)
-  number_first (o ∷ T) (suc k) h d e =
-      rw (d 0 (omega arith), number_in) (ap suc (number_first T k (omega arith) (λ j l. d (suc j) (omega arith)) e))
-
-  -- .. and of any name: the operator with that number has the name ..
+  -- The operator with the number of a name has the name ..
   number_name : (T : Table) → IsNumber T name (number_in T name)
   unfolding number_in name_of
   number_name [] = inl refl
@@ -135,16 +130,6 @@ unfolding start_number start_name start_count
 start_number_lem k h = name_number start_table distinct_start k h
 
 module _ (name : Bytes) where
-  pub none_number : ((j : ℕ) → j < start_count → same name (start_name j) ≡ false) → start_number name ≡ start_count
-  unfolding start_number start_name start_count
-  none_number d = number_none name start_table d
-
-  pub first_number :
-      (k : ℕ) → k < start_count → ((j : ℕ) → j < k → same name (start_name j) ≡ false) → same name (start_name k) ≡ true
-      → start_number name ≡ k
-  unfolding start_number start_name start_count
-  first_number k h d e = number_first name start_table k h d e
-
   pub start_name_lem : Unnumbered name ⊎ ((start_number name < start_count) × (name ≡ start_name (start_number name)))
   unfolding start_number start_name start_count
   start_name_lem = number_name name start_table
@@ -167,3 +152,23 @@ module _ (name : Bytes) where
           let p = eqb-true (start_number name) k d in
           ⊎_elim (λ n. absurd (omega arith)) (λ n. absurd (clash (rw (n.1, p) (same_refl (start_name k))) e)) start_name_lem
       go false e false d = refl
+
+-- The number of a name, or that it has none.
+module _ (name : Bytes) where
+  pub found_some : start_number name < start_count → found_number name ≡ Some (start_number name)
+  unfolding found_number
+  found_some h = rw (lt-ltb _ _ h, found_number)
+
+  pub found_none : Unnumbered name → found_number name ≡ None
+  unfolding found_number
+  found_none u = rw (le-ltb (start_number name) start_count (omega arith), found_number)
+
+  pub some_number : (k : ℕ) → found_number name ≡ Some k → (k < start_count) × (k ≡ start_number name)
+  some_number k e =
+      ⊎_elim (λ u. let f = found_none u in impossible cc) (λ n. let f = found_some n.0 in is (cc) n.0) (start_name_lem name)
+    where
+      is : k ≡ start_number name → start_number name < start_count → (k < start_count) × (k ≡ start_number name)
+      is q h = (omega arith, q)
+
+  pub none_number_is : found_number name ≡ None → Unnumbered name
+  none_number_is e = ⊎_elim (λ u. u) (λ n. let f = found_some n.0 in impossible cc) (start_name_lem name)

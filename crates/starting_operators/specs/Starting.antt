@@ -1,14 +1,16 @@
--- The starting operators by number, and what a row of roles holds of a text in which no block declares others.
-use Rattle.std.specs.Prelude.{◌≡◌, true, false, List, [], ◌∷◌, ◌⊎◌, ℕ, zero, suc, ◌≤◌, ◌<◌, length, take}
+-- The starting operators by number, and what a row of notes holds of a text in which no block declares others.
+use Rattle.std.specs.Prelude.{◌≡◌, true, false, List, [], ◌∷◌, ◌⊎◌, ℕ, zero, suc, ◌≤◌, ◌<◌, ltb, length, Option, Some, None}
 use Rattle.std.proofs.Math.Option.{none}
 use Rattle.grammar.specs.Bytes.{Bytes, same}
-use Rattle.grammar.specs.Operator.{Prefix, Infix, Roles, Table}
+use Rattle.grammar.specs.Operator.{Prefix, Infix, Postfix, Roles, Table}
 use Rattle.grammar.specs.Scan.{Placed}
 use Rattle.grammar.specs.Declaration.{start_table}
-use Rattle.rows.specs.Fields.{kind, start, size, closer, arrival, Holds}
+use Rattle.rows.specs.Fields.{TokenRow, NoteRow, kind, start, size, closer, arrival, Holds}
 use Rattle.rows.specs.Tokens.{written_of, atom_in, IsAtomKind, Stored}
 use Rattle.rows.specs.Codes.{role_code}
 use Rattle.rows.specs.Agreeing.{Noted, KeptOutside}
+use Rattle.rows.specs.declared.token.Token.{Token}
+use Rattle.rows.specs.declared.roles.Roles as Coded
 use Rattle.rows.specs.declared.class.Class.{Class}
 use Rattle.rows.specs.declared.class.Class.TheVariants.{Name, Number, Operator, Bracket, Block}
 use Rattle.starting_operators.specs.declared.number.StartingOperator.{StartingOperator}
@@ -45,29 +47,32 @@ start_count = length start_table
 abbrev pub Unnumbered : Bytes → Type 0
 Unnumbered name = start_number name ≡ start_count
 
--- The operator with number `n` as it stands in the code: its name is the first bytes of three. From `start_count` on there is none.
+-- The number of the operator that has the name, or that none has it.
+unfoldable pub found_number : Bytes → Option ℕ
+found_number name = elim (ltb (start_number name) start_count) [ true ↦ Some (start_number name) | false ↦ None ]
+
+-- The roles of the operator with number `n` as they stand in the code. From `start_count` on there are none.
+pub record HasRoles (n : ℕ) (r : Coded.Roles) : Type 0 where
+  pub prefixed : r.prefix.code ≡ role_code (start_roles n Prefix)
+  pub between : r.«infix».code ≡ role_code (start_roles n Infix)
+  pub postfixed : r.postfix.code ≡ role_code (start_roles n Postfix)
+
+-- The operator with number `n` as it stands in the code. From `start_count` on there is none.
 pub record IsOperator (n : ℕ) (o : StartingOperator) : Type 0 where
-  pub named : take o.size o.name ≡ start_name n
-  pub sized : o.size ≡ length (start_name n)
-  pub prefixed : o.prefix ≡ role_code (start_roles n Prefix)
-  pub between : o.«infix» ≡ role_code (start_roles n Infix)
+  pub named : o.name.now ≡ start_name n
+  pub roled : HasRoles n o.roles
 
--- All names with `size` bytes are those of operators with numbers from `from` to before `to`.
-pub record Ranges (size from to : ℕ) : Type 0 where
-  pub within : to ≤ start_count
-  pub all : (j : ℕ) → j < start_count → length (start_name j) ≡ size → (from ≤ j) × (j < to)
-
--- `n` tokens of the text, atoms and brackets, with a row for their roles.
-pub record Notable (text : Bytes) (K R : List ℕ) (n : ℕ) : Type 0 where
+-- `n` tokens of the text, atoms and brackets, with a row for their notes.
+pub record Notable (text : Bytes) (K : TokenRow) (R : NoteRow) (n : ℕ) : Type 0 where
   pub placed : List Placed
   pub stored : Stored text placed K
   pub within : n ≤ length placed
   pub flat : (j : ℕ) → j < n → kind K j ≤ 5
-  pub tokens : Holds 4 K n
-  pub roles : Holds 4 R n
+  pub tokens : Holds K n
+  pub roles : Holds R n
 
 -- The class of token `i`, which is no closing bracket.
-abbrev pub IsClass : Bytes → List ℕ → ℕ → Class → Type 0
+abbrev pub IsClass : Bytes → List Token → ℕ → Class → Type 0
 IsClass text K i (Operator k) = (kind K i ≡ 1) × (k ≡ start_number (written_of text K i))
 IsClass text K i (Name s n) =
     (s ≡ start K i) × (n ≡ size K i) × (((kind K i ≡ 1) × Unnumbered (written_of text K i)) ⊎ (kind K i ≡ 3))
@@ -76,15 +81,15 @@ IsClass text K i (Bracket c) = (kind K i ≡ 4) × (closer K i ≡ c)
 IsClass text K i (Block c) = ⊥
 
 -- Token `i` has the roles of an atom under the starting operators, or is no operator if it opens a bracket pair.
-pub record NotedToken (text : Bytes) (K R : List ℕ) (i : ℕ) : Type 0 where
+pub record NotedToken (text : Bytes) (K : TokenRow) (R : NoteRow) (i : ℕ) : Type 0 where
   pub atoms : IsAtomKind (kind K i) → Noted start_table R i (atom_in text K i)
   pub opens : kind K i ≡ 4 → arrival R i ≡ 0
 
 -- So it is noted of one token, and of `n`; the rest of the row is as it was.
-pub record NotesToken (text : Bytes) (K R : List ℕ) (i : ℕ) (R' : List ℕ) : Type 0 where
+pub record NotesToken (text : Bytes) (K : TokenRow) (R : NoteRow) (i : ℕ) (R' : NoteRow) : Type 0 where
   pub noted : NotedToken text K R' i
   pub kept : KeptOutside R i (suc i) R'
 
-pub record NotesAll (text : Bytes) (K : List ℕ) (n : ℕ) (R R' : List ℕ) : Type 0 where
+pub record NotesAll (text : Bytes) (K : TokenRow) (n : ℕ) (R R' : NoteRow) : Type 0 where
   pub noted : (j : ℕ) → j < n → NotedToken text K R' j
   pub kept : KeptOutside R 0 n R'

@@ -49,17 +49,17 @@ pub returns-in-48-to-57 : goal.returns-in-48-to-57
 unfolding class_of member
 returns-in-48-to-57 c = interval 2 47 11 c.args.b refl (search rules) (omega arith) (omega arith)
 
-pub returns-in-60-to-64 : goal.returns-in-60-to-64
+pub returns-in-35-to-38-2 : goal.returns-in-35-to-38-2
 unfolding class_of member
-returns-in-60-to-64 c = interval 4 58 7 c.args.b refl (search rules) (omega arith) (omega arith)
+returns-in-35-to-38-2 c = interval 4 58 7 c.args.b refl (search rules) (omega arith) (omega arith)
 
 pub returns-in-65-to-90 : goal.returns-in-65-to-90
 unfolding class_of member
 returns-in-65-to-90 c = interval 1 65 26 c.args.b refl (search rules) (omega arith) (omega arith)
 
-pub returns-in-97-to-122 : goal.returns-in-97-to-122
+pub returns-in-65-to-90-2 : goal.returns-in-65-to-90-2
 unfolding class_of member
-returns-in-97-to-122 c = interval 1 97 26 c.args.b refl (search rules) (omega arith) (omega arith)
+returns-in-65-to-90-2 c = interval 1 97 26 c.args.b refl (search rules) (omega arith) (omega arith)
 
 pub returns-in_default : goal.returns-in_default
 unfolding class_of member

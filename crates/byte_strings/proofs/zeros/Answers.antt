@@ -1,21 +1,9 @@
--- The loop's invariant: what is left from `z` on has the same digits without zeros as all.
-use mathlib.Core.Path.{refl, sym, ◌∙◌}
+-- All but the last digit are counted through.
+use Prim.Native.Nat.{◌-◌}
 use native.Mathlib.Omega.{arith}
-use Rattle.byte_strings.proofs.LeadingZeros.{zeros_step, zeros_stop, zeros_end}
+use lib.ListN.{length}
+use Rattle.byte_strings.proofs.LeadingZeros.{zeros_go}
 use Rattle.byte_strings.proofs.zeros.Goals as goal
 
-pub loop-z-init : goal.loop-z-init
-loop-z-init c = (omega arith, refl)
-
-pub returns-then-digits-z-ne48 : goal.returns-then-digits-z-ne48
-returns-then-digits-z-ne48 c =
-    let l = c in
-    (omega arith, zeros_stop _ l.loop-z.z (omega arith) c.if-digits-z-ne48.true ∙ l.loop-z.invariant.1)
-
-pub loop-z-preserved : goal.loop-z-preserved
-loop-z-preserved c =
-    let l = c in
-    (omega arith, sym (zeros_step _ l.loop-z.z (omega arith) c.if-digits-z-ne48.false) ∙ l.loop-z.invariant.1)
-
 pub returns : goal.returns
-returns c = let l = c in (omega arith, zeros_end _ l.loop-z.z (omega arith) (omega arith) ∙ l.loop-z.invariant.1)
+returns c = let d = c.args.digits.now in zeros_go d (length d - 1) _ (omega arith) c.leading_zeros.ensures

@@ -3,7 +3,8 @@ use Rattle.checks.proofs.Stages.{not_resolved, classified}
 use Rattle.checks.proofs.check_blocks.Goals as goal
 
 pub check_spans-requires : goal.check_spans-requires
-check_spans-requires c = classified c.requires.0 _ _ c.resolve_text.ensures c.in-Passed.is
+check_spans-requires c = classified c.requires.0 _ _ c.resolve_text.ensures _ c.in_default.is
 
-pub returns-in-Refused : goal.returns-in-Refused
-returns-in-Refused c = rw c.offset_of.ensures (not_resolved c.requires.0 _ _ c.resolve_text.ensures _ _ _ c.in-Refused.is)
+pub returns-in-Err : goal.returns-in-Err
+returns-in-Err c =
+    rw c.into.ensures (not_resolved c.requires.0 _ _ c.resolve_text.ensures c.args.roots.now _ _ c.in-Err.is c.at_offset.ensures)

@@ -1,14 +1,15 @@
--- The answer that was put into the line is what is written.
-use Prim.Native.Nat.{ℕ}
-use native.Mathlib.Omega.{arith}
-use lib.ListN.{length-replicate}
-use Rattle.listing.specs.Lines.{line_size}
-use Rattle.listing.proofs.Puts.{put_front}
-use Rattle.listing.proofs.Appended.{ok_same}
+-- The word and the count, or the refusal, are the text of the answer.
+use Rattle.std.proofs.Common.{rules}
+use Rattle.listing.proofs.Appended.{ok_same, ok_then}
+use Rattle.listing.proofs.Outcomes.{answer-counted, answer-refused}
 use Rattle.listing.proofs.print_answer.Goals as goal
 
-pub returns : goal.returns
-returns g c =
-    ok_same c.write_all.result _ _
-    (put_front c.put_answer-n.ensures.put (length-replicate {A = ℕ} line_size 0) (omega (arith, c.put_answer-n.ensures.upper_bound)))
-    c.write_all.ensures.bytes
+pub returns-in_ok-write_all-in-Ok : goal.returns-in_ok-write_all-in-Ok
+returns-in_ok-write_all-in-Ok g c =
+    ok_same c.write.result _ _ (answer-counted c.args.a c.args.word.now c.in-Ok.count (search rules) (search rules))
+    (ok_then c.write.result _ _ _ _ _ c.in_ok-write_all-in-Ok.ensures.bytes c.write.ensures.bytes)
+
+pub returns-in-Err : goal.returns-in-Err
+returns-in-Err g c =
+    ok_same c.write-in-Err.result _ _ (answer-refused c.args.a c.args.word.now c.in-Err.refusal (search rules) (search rules) (search rules))
+    c.write-in-Err.ensures.bytes

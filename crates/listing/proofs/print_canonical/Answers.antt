@@ -5,38 +5,42 @@ use Prim.Native.Nat.{ℕ, ◌≤◌}
 use native.Mathlib.Omega.{arith}
 use lib.ListN.{length, replicate, length-replicate}
 use lib.Seq.{length-take-le}
+use Rattle.std.proofs.Common.{rules, Ok}
 use Rattle.reader.specs.declared.Answer.{Answer}
 use Rattle.reader.specs.Answered.{Canonicalizes}
 use Rattle.reader.proofs.Fits.{canonical_count_fits}
-use Rattle.std.proofs.KnownBytes.{Appends-trans}
-use Rattle.listing.proofs.Appended.{appended_same, ok_same, ok_then}
+use Rattle.listing.specs.Outcome.{outcome_of}
+use Rattle.listing.proofs.Appended.{ok_same, ok_then}
+use Rattle.listing.proofs.Outcomes.{outcome-counted}
 use Rattle.listing.proofs.Listed.{canonical_printed, canonical-refusal_printed}
 use Rattle.listing.proofs.print_canonical.Goals as goal
 
 -- The count is within the buffer, which keeps its length.
-within : (text buffer : List ℕ) (a : Answer) → Canonicalizes text (replicate 16384 0) buffer a → length buffer ≡ 16384 → a.count ≤ length buffer
-within text buffer a e size =
-    omega (arith, canonical_count_fits text (replicate 16384 0) buffer a e, length-replicate {A = ℕ} 16384 0)
+within
+    : (text buffer : List ℕ) (a : Answer) (n : ℕ) → Canonicalizes text (replicate 16384 0) buffer a → outcome_of a ≡ Ok n → length buffer ≡ 16384
+    → n ≤ length buffer
+within text buffer a n e o size =
+    omega (arith, canonical_count_fits text (replicate 16384 0) buffer a e, length-replicate {A = ℕ} 16384 0, (outcome-counted a n o).1)
 
 pub slice_bounds-buffer-end : goal.slice_bounds-buffer-end
 slice_bounds-buffer-end g c =
-    let a = c.canonicalize-a in
-    within c.args.text.now a.new.buffer a.result a.ensures a.auto.buffer
+    let a = c.canonicalize in
+    within c.args.text.now a.new.buffer a.result c.in-Ok.count a.ensures (search rules) a.auto.buffer
 
-pub slice_bounds-write_all-end : goal.slice_bounds-write_all-end
-slice_bounds-write_all-end g c =
-    let a = c.canonicalize-a in
-    sym (length-take-le a.result.count a.new.buffer (within c.args.text.now a.new.buffer a.result a.ensures a.auto.buffer))
+pub slice_bounds-print_line-end : goal.slice_bounds-print_line-end
+slice_bounds-print_line-end g c =
+    let a = c.canonicalize in
+    sym (length-take-le c.in-Ok.count a.new.buffer (within c.args.text.now a.new.buffer a.result c.in-Ok.count a.ensures (search rules) a.auto.buffer))
 
-pub returns-then-a-ne0 : goal.returns-then-a-ne0
-returns-then-a-ne0 g c =
-    let a = c.canonicalize-a in
-    appended_same _ _ (canonical-refusal_printed c.args.text.now a.new.buffer a.result a.ensures c.if-a-ne0.true) c.in_ok-print_answer_line.ensures
+pub returns-in_ok-writeln-in-Ok : goal.returns-in_ok-writeln-in-Ok
+returns-in_ok-writeln-in-Ok g c =
+    let a = c.canonicalize in
+    ok_same c.print_line.result _ _ (canonical_printed c.args.text.now a.new.buffer a.result a.ensures c.in-Ok.count (search rules))
+    (ok_then c.print_line.result _ _ _ _ _ c.in_ok-writeln-in-Ok.ensures.bytes c.print_line.ensures)
 
-pub returns : goal.returns
-returns g c =
-    let a = c.canonicalize-a in
-    ok_same c.write_all-2.result _ _ (canonical_printed c.args.text.now a.new.buffer a.result a.ensures c.if-a-ne0.false)
-    (ok_then c.write_all-2.result _ _ _ _ _
-    (Appends-trans _ _ _ _ _ c.in_ok-print_answer_line.ensures c.in_ok-write_all.ensures.bytes)
-    c.write_all-2.ensures.bytes)
+pub returns-in-Err : goal.returns-in-Err
+returns-in-Err g c =
+    let a = c.canonicalize in
+    ok_same c.writeln-in-Err.result _ _
+    (canonical-refusal_printed c.args.text.now a.new.buffer a.result a.ensures c.in-Err.refusal (search rules))
+    c.writeln-in-Err.ensures.bytes

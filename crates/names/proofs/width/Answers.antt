@@ -5,5 +5,5 @@ use Rattle.names.proofs.width.Goals as goal
 pub returns-then-first-eq39 : goal.returns-then-first-eq39
 returns-then-first-eq39 c = quote_wide _ c.if-first-eq39.true
 
-pub returns : goal.returns
-returns c = other_wide _ c.if-first-eq39.false
+pub returns-else-first-eq39 : goal.returns-else-first-eq39
+returns-else-first-eq39 c = other_wide _ c.if-first-eq39.false

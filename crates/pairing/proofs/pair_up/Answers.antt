@@ -1,11 +1,9 @@
 -- Each arm of the match is one of the laws of `Walks`, by what the token does there.
-use mathlib.Core.Path.{◌≡◌, refl}
+use mathlib.Core.Path.{refl, sym, ◌∙◌}
 use native.Mathlib.Omega.{arith}
+use borrow.Author.Tests.{leb-true}
 use Rattle.grammar.proofs.Logic.{impossible}
-use Rattle.pairing.specs.declared.Move.{Move}
-use Rattle.pairing.specs.declared.Move.TheVariants.{Stay, Break, Turn, Close}
 use Rattle.pairing.proofs.Walks.{
-  Made,
   walk_starts,
   walk_made,
   walk_atom,
@@ -25,87 +23,76 @@ use Rattle.pairing.proofs.Walks.{
   seen_block,
 }
 use Rattle.pairing.proofs.pair_up.Goals as goal
-use Rattle.pairing.proofs.pair_up.Goals.{After-move_of}
+use Rattle.pairing.proofs.pair_up.Goals.{
+  then-not-is_atom+in-Stay,
+  then-not-is_atom+in-Open+else-depth-ge-MAX_DEPTH,
+  then-not-is_atom+in-Turn,
+  then-not-is_atom+in-Close,
+  else-not-is_atom,
+}
 
--- What the token does, where the answer of `move_of` is `r`.
-made : (c : After-move_of) (r : Move) → c.move_of.result ≡ r → Made c.loop-next.tokens c.loop-next.next c.loop-next.invariant.0.0 r
-made c r e =
-    let k = c.kind-kind.ensures in
-    rw e at
-    (walk_made c.loop-next.invariant.0.1 c.loop-next-test.true c.requires.1 (rw k at c.if-kind-gt-QUOTED.true)
-    (λ qs f. rw k at (c.move_of.ensures qs f)))
-
-pub loop-next-init : goal.loop-next-init
-loop-next-init c = (walk_starts _ _ _ _ refl refl refl, seen_none _)
-
-pub loop-next-preserved-in-Stay : goal.loop-next-preserved-in-Stay
-loop-next-preserved-in-Stay c =
-    let (w, u) = c.loop-next.invariant in
-    let l = c.loop-next-test.true in
-    let m = made (goal.at.loop-next-preserved-in-Stay c).After-move_of Stay c.in-Stay.is in
-    (walk_stays w.1 l m, seen_made w.1 l m (λ e. impossible cc) (λ e. impossible cc) u)
+pub loop-i-init : goal.loop-i-init
+loop-i-init c = (walk_starts _ _ _ refl refl, seen_none _)
 
 pub returns-in-Break : goal.returns-in-Break
 returns-in-Break c =
-    walk_breaks c.loop-next.invariant.0.1 c.loop-next-test.true (made (goal.at.returns-in-Break c).After-move_of Break c.in-Break.is)
+    let w = c.loop-i.invariant.0.1 in
+    let l = c.loop-i-test.true in
+    walk_breaks w l (walk_made w l c.is_atom.ensures c.if-not-is_atom.true c.move_of.ensures c.in-Break.is)
 
 pub returns-then-depth-ge-MAX_DEPTH : goal.returns-then-depth-ge-MAX_DEPTH
 returns-then-depth-ge-MAX_DEPTH c =
-    let m = made (goal.at.returns-then-depth-ge-MAX_DEPTH c).After-move_of _ c.in-Open.is in
-    walk_deep c.loop-next.invariant.0.1 c.loop-next-test.true m (omega arith)
+    let w = c.loop-i.invariant.0.1 in
+    let l = c.loop-i-test.true in
+    walk_deep w l (walk_made w l c.is_atom.ensures c.if-not-is_atom.true c.move_of.ensures c.in-Open.is) (omega arith)
 
-pub loop-next-preserved-in-Open : goal.loop-next-preserved-in-Open
-loop-next-preserved-in-Open c =
-    let (w, u) = c.loop-next.invariant in
-    let l = c.loop-next-test.true in
-    let m = made (goal.at.loop-next-preserved-in-Open c).After-move_of _ c.in-Open.is in
-    (walk_enters w.1 l m (omega arith), seen_made w.1 l m (λ e. impossible cc) (λ e. impossible cc) u)
+pub bounds-tokens-opener : goal.bounds-tokens-opener
+bounds-tokens-opener c =
+    let w = c.loop-i.invariant.0.1 in
+    let o = turns_open w (walk_made w c.loop-i-test.true c.is_atom.ensures c.if-not-is_atom.true c.move_of.ensures c.in-Turn.is) in
+    omega (arith, c.loop-i.auto.tokens)
 
-pub set_closer-requires : goal.set_closer-requires
-set_closer-requires c =
-    let w = c.loop-next.invariant.0.1 in
-    let o = turns_open w (made (goal.at.set_closer-requires c).After-move_of Turn c.in-Turn.is) in
-    let l = w.kept.long in
-    ((omega arith, omega arith), omega arith)
-
-pub loop-next-preserved-in-Turn : goal.loop-next-preserved-in-Turn
-loop-next-preserved-in-Turn c =
-    let w = c.loop-next.invariant.0.1 in
-    let l = c.loop-next-test.true in
-    let m = made (goal.at.loop-next-preserved-in-Turn c).After-move_of Turn c.in-Turn.is in
-    (rw c.set_closer.ensures (walk_turns c.requires.0 l w m), seen_block w l m)
-
-pub set_closer-requires-in-Close : goal.set_closer-requires-in-Close
-set_closer-requires-in-Close c =
-    let w = c.loop-next.invariant.0.1 in
-    let o = closes_open w (made (goal.at.set_closer-requires-in-Close c).After-move_of Close c.in-Close.is) in
-    let l = w.kept.long in
-    ((omega arith, omega arith), omega arith)
+pub bounds-tokens-opener-in-Close : goal.bounds-tokens-opener-in-Close
+bounds-tokens-opener-in-Close c =
+    let w = c.loop-i.invariant.0.1 in
+    let o = closes_open w (walk_made w c.loop-i-test.true c.is_atom.ensures c.if-not-is_atom.true c.move_of.ensures c.in-Close.is) in
+    omega (arith, c.loop-i.auto.tokens)
 
 pub overflow_sub-depth : goal.overflow_sub-depth
 overflow_sub-depth c =
-    (closes_open c.loop-next.invariant.0.1 (made (goal.at.overflow_sub-depth c).After-move_of Close c.in-Close.is)).0
+    let w = c.loop-i.invariant.0.1 in
+    (closes_open w (walk_made w c.loop-i-test.true c.is_atom.ensures c.if-not-is_atom.true c.move_of.ensures c.in-Close.is)).0
 
-pub loop-next-preserved-in-Close : goal.loop-next-preserved-in-Close
-loop-next-preserved-in-Close c =
-    let (w, u) = c.loop-next.invariant in
-    let l = c.loop-next-test.true in
-    let m = made (goal.at.loop-next-preserved-in-Close c).After-move_of Close c.in-Close.is in (
-      rw c.set_closer-in-Close.ensures (walk_closes c.requires.0 l w.1 m),
-      seen_made w.1 l m (λ e. impossible cc) (λ e. impossible cc) u,
-    )
-
-pub loop-next-preserved : goal.loop-next-preserved
-loop-next-preserved c =
-    let (w, u) = c.loop-next.invariant in
-    let l = c.loop-next-test.true in
-    let k = rw c.kind-kind.ensures at c.if-kind-gt-QUOTED.false in
-    (walk_atom w.1 l c.requires.1 k, seen_atom w.1 l k u)
+pub loop-i-preserved : goal.loop-i-preserved
+loop-i-preserved c =
+    let (w, u) = c.loop-i.invariant in
+    let l = c.loop-i-test.true in
+    let a = c.is_atom.ensures in
+    elim c.if-not-is_atom.branch [
+      | then-not-is_atom+in-Stay x ↦
+          let m = walk_made w.1 l a x.if-not-is_atom.true x.move_of.ensures x.in-Stay.is in
+          rw (x.tokens-is, x.pairs-is, x.blocks-is, x.depth-is)
+          (walk_stays w.1 l m, seen_made w.1 l m (λ e. impossible cc) (λ e. impossible cc) u)
+      | then-not-is_atom+in-Open+else-depth-ge-MAX_DEPTH x ↦
+          let m = walk_made w.1 l a x.if-not-is_atom.true x.move_of.ensures x.in-Open.is in
+          rw (x.tokens-is, x.pairs-is, x.blocks-is, x.depth-is)
+          (walk_enters w.1 l m (omega arith), seen_made w.1 l m (λ e. impossible cc) (λ e. impossible cc) u)
+      | then-not-is_atom+in-Turn x ↦
+          let m = walk_made w.1 l a x.if-not-is_atom.true x.move_of.ensures x.in-Turn.is in
+          rw (x.tokens-is, x.pairs-is, x.blocks-is, x.depth-is) (walk_turns c.requires l w.1 m, seen_block w.1 l m)
+      | then-not-is_atom+in-Close x ↦
+          let m = walk_made w.1 l a x.if-not-is_atom.true x.move_of.ensures x.in-Close.is in
+          rw (x.tokens-is, x.pairs-is, x.blocks-is, x.depth-is)
+          (walk_closes c.requires l w.1 m, seen_made w.1 l m (λ e. impossible cc) (λ e. impossible cc) u)
+      | else-not-is_atom x ↦
+          let k = leb-true _ 3 (sym a ∙ x.if-not-is_atom.false) in
+          rw (x.tokens-is, x.pairs-is, x.blocks-is, x.depth-is) (walk_atom w.1 l k, seen_atom w.1 l k u)
+    ]
 
 pub returns-then-depth-gt0 : goal.returns-then-depth-gt0
-returns-then-depth-gt0 c = walk_unclosed c.loop-next-test.false _ c.loop-next.invariant.0.1 (omega arith)
+returns-then-depth-gt0 c = walk_unclosed c.loop-i-test.false _ c.loop-i.invariant.0.1 (omega arith)
 
 pub returns : goal.returns
 returns c =
-    let (w, u) = c.loop-next.invariant in
-    walk_passed c.loop-next-test.false _ _ w.1 u (omega arith)
+    let (w, u) = c.loop-i.invariant in
+    walk_passed c.loop-i-test.false _ _ w.1 u (omega arith)

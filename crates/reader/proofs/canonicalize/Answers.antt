@@ -3,4 +3,4 @@ use Rattle.reader.proofs.HandedOut.{canonicalize_handed_out}
 use Rattle.reader.proofs.canonicalize.Goals as goal
 
 pub returns : goal.returns
-returns c = canonicalize_handed_out c.handed_out.ensures c.serve.ensures
+returns c = canonicalize_handed_out c.into.ensures c.serve.ensures

@@ -3,4 +3,4 @@ use Rattle.reader.proofs.HandedOut.{locate_handed_out}
 use Rattle.reader.proofs.locate.Goals as goal
 
 pub returns : goal.returns
-returns c = locate_handed_out c.handed_out.ensures c.serve.ensures
+returns c = locate_handed_out c.into.ensures c.serve.ensures

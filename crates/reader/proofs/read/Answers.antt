@@ -3,4 +3,4 @@ use Rattle.reader.proofs.HandedOut.{read_handed_out}
 use Rattle.reader.proofs.read.Goals as goal
 
 pub returns : goal.returns
-returns c = read_handed_out c.handed_out.ensures c.serve.ensures
+returns c = read_handed_out c.into.ensures c.serve.ensures

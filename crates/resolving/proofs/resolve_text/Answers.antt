@@ -16,5 +16,5 @@ returns-then-not-blocks c = blockless_resolves c.requires.0 (c.requires.1 c.if-n
 
 pub resolve-requires : goal.resolve-requires
 resolve-requires c =
-    let (sound, table) = c.new-t.ensures _ in
+    let (sound, table) = c.new.ensures _ in
     (c.requires.0, record { sound = sound; kept = ap permitted table ∙ permitted_complete start_table distinct_start permitted-start })

@@ -7,7 +7,7 @@ use Rattle.canonical_text.proofs.Keeping.{KeptTo}
 use Rattle.canonical_text.proofs.brackets.keep.Given as goal
 
 abbrev pub invariant-loop-i : goal.invariant-loop-i
-invariant-loop-i l = (T : Table) (t : Tree) → Keepable l.initial.tokens l.roles l.roots l.count T t → KeptTo l.initial.tokens T t l.count l.i l.tokens
+invariant-loop-i l = (T : Table) (t : Tree) → Keepable l.initial.tokens l.notes l.roots l.count T t → KeptTo l.initial.tokens T t l.count l.i l.tokens
 
 abbrev pub decreases-loop-i : goal.decreases-loop-i
 decreases-loop-i l = l.count - l.i

@@ -9,7 +9,8 @@ pub trim-requires : goal.trim-requires
 trim-requires c =
     let p = c.requires in
     let e = c.keep.ensures _ _ (ready_keepable p.1 p.2) in
-    (ready_held p.1 p.2 e, ready_trimmable p.1 p.2 e)
+    let n = ready_held p.1 p.2 e in
+    (n.0, n.1, ready_trimmable p.1 p.2 e)
 
 pub returns : goal.returns
 returns c r h e =

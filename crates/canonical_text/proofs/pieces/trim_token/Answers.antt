@@ -1,25 +1,18 @@
 -- By the kind: a number by its zeros, a quoted name by whether it stays quoted, any other token is left.
-use mathlib.Core.Path.{sym, ◌∙◌}
+use Rattle.std.proofs.Common.{rules}
 use Rattle.canonical_text.proofs.TrimToken.{trimmed_plain, trimmed_number, trimmed_quoted, trimmed_bare}
 use Rattle.canonical_text.proofs.pieces.trim_token.Goals as goal
 
-pub returns-then-kind-eq-NUMBER : goal.returns-then-kind-eq-NUMBER
-returns-then-kind-eq-NUMBER c =
-    trimmed_number c.requires.1 _ _ c.start-start.ensures c.size-size.ensures (sym c.kind-kind.ensures ∙ c.if-kind-eq-NUMBER.true)
-    c.zeros-z.result c.zeros-z.ensures.0 c.zeros-z.ensures.1 c.set_bytes.ensures
+pub returns-in-Number : goal.returns-in-Number
+returns-in-Number c =
+    let z = rw c.written.ensures at c.zeros-zeros.ensures in
+    trimmed_number c.args.roles c.requires (search rules) c.zeros-zeros.result z.0 z.1
 
 pub returns-then-stays_quoted : goal.returns-then-stays_quoted
-returns-then-stays_quoted c =
-    let k = sym c.kind-kind.ensures ∙ c.if-kind-eq-QUOTED.true in
-    trimmed_quoted c.requires.1 _ _ c.start-start-then-kind-eq-QUOTED.ensures c.size-size-then-kind-eq-QUOTED.ensures k
-    c.stays_quoted.ensures c.if-stays_quoted.true c.set_bytes-then-stays_quoted.ensures
+returns-then-stays_quoted c = trimmed_quoted c.args.roles c.requires (search rules) (search rules)
 
 pub returns-else-stays_quoted : goal.returns-else-stays_quoted
-returns-else-stays_quoted c =
-    let k = sym c.kind-kind.ensures ∙ c.if-kind-eq-QUOTED.true in
-    trimmed_bare c.requires.1 _ _ c.start-start-then-kind-eq-QUOTED.ensures c.size-size-then-kind-eq-QUOTED.ensures k
-    c.stays_quoted.ensures c.if-stays_quoted.false
+returns-else-stays_quoted c = trimmed_bare c.args.roles c.requires (search rules) (search rules)
 
-pub returns-else-kind-eq-QUOTED : goal.returns-else-kind-eq-QUOTED
-returns-else-kind-eq-QUOTED c =
-    trimmed_plain c.requires.1 (λ e. c.if-kind-eq-NUMBER.false (c.kind-kind.ensures ∙ e)) (λ e. c.if-kind-eq-QUOTED.false (c.kind-kind.ensures ∙ e))
+pub returns-in_default : goal.returns-in_default
+returns-in_default c = trimmed_plain c.args.roles c.requires (search rules) (search rules)

@@ -1,43 +1,50 @@
 -- Whether an operator may come: by the roles that are there.
-use mathlib.Core.Path.{◌≡◌, sym, ◌∙◌}
-use native.Mathlib.Omega.{arith}
-use mathlib.Core.Bool.{Bool}
-use mathlib.Core.Option.{some}
+use mathlib.Core.Path.{◌≡◌, sym, ap, ◌∙◌}
+use mathlib.Core.Bool.{Bool, true, false}
 use Prim.Native.Nat.{ℕ}
-use Rattle.grammar.specs.Operator.{Role}
-use Rattle.grammar.specs.SpanTree.{Position, on_left, on_right, admits}
-use Rattle.rows.specs.Codes.{role_of}
-use Rattle.climb.proofs.Arrives.{prefix_none, prefix_untaken, prefix_by, infix_by, postfix_none, postfix_by}
+use lib.Dec.{eqb}
+use borrow.Author.Tests.{eqb-true, eqb-false}
+use Rattle.rows.specs.declared.roles.Note.{Note}
+use Rattle.climb.proofs.Arrives.{note_read, prefix_none, prefix_untaken, prefix_by, infix_by, postfix_none, postfix_by}
 use Rattle.climb.proofs.search.arrives.Goals as goal
 
--- What a test of two roles tells.
-abbrev Tests : Position → ℕ → ℕ → Bool → Type 0
-Tests s role operand r = (q : Role) → role_of role ≡ some q → r ≡ admits s q (role_of operand)
+is-zero : {b : Bool} {x y : ℕ} → x ≡ y → b ≡ eqb y 0 → b ≡ true → x ≡ 0
+is-zero {y = y} e f t = e ∙ eqb-true y 0 (sym f ∙ t)
 
-pub returns-then-prefix-eq0 : goal.returns-then-prefix-eq0
-returns-then-prefix-eq0 c = sym (prefix_none _ _ _ _ _ c.if-left-eq0.true (sym c.prefix-prefix.ensures ∙ c.if-prefix-eq0.true))
+not-zero : {b : Bool} {x y : ℕ} → x ≡ y → b ≡ eqb y 0 → b ≡ false → x ≡ 0 → ⊥
+not-zero {y = y} e f t z = eqb-false y 0 (sym f ∙ t) (sym e ∙ z)
 
-pub returns-then-taking-eq0 : goal.returns-then-taking-eq0
-returns-then-taking-eq0 c = sym (prefix_untaken _ _ _ _ _ c.if-left-eq0.true c.if-taking-eq0.true)
+pub returns-then-is_none : goal.returns-then-is_none
+returns-then-is_none c =
+    let e = note_read _ _ c.index-notes-i.result c.requires in
+    sym
+    (prefix_none _ _ _ _ _ c.if-left-eq0.true (is-zero (ap (λ (n : Note). n.roles.prefix.code) e) c.is_none.ensures c.if-is_none.true))
+
+pub returns-then-is_none-2 : goal.returns-then-is_none-2
+returns-then-is_none-2 c =
+    sym (prefix_untaken _ _ _ _ _ c.if-left-eq0.true (eqb-true _ 0 (sym c.is_none-then-left-eq0.ensures ∙ c.if-is_none-2.true)))
 
 pub returns-then-left-eq0 : goal.returns-then-left-eq0
 returns-then-left-eq0 c =
-    let f = c.prefix-prefix.ensures in
-    let tested : Tests on_right c.args.taking c.prefix-prefix.result c.admits_right.result = c.admits_right.ensures in
-    prefix_by _ _ _ _ _ _ c.if-left-eq0.true (λ e. c.if-prefix-eq0.false (f ∙ e)) c.if-taking-eq0.false (rw f at tested)
+    let e = ap (λ (n : Note). n.roles.prefix.code) (note_read _ _ c.index-notes-i.result c.requires) in
+    prefix_by _ _ _ _ _ _ c.if-left-eq0.true (not-zero e c.is_none.ensures c.if-is_none.false)
+    (eqb-false _ 0 (sym c.is_none-then-left-eq0.ensures ∙ c.if-is_none-2.false)) (rw e c.admits.ensures)
 
-pub returns-then-infix-ne0 : goal.returns-then-infix-ne0
-returns-then-infix-ne0 c =
-    let f = c.infix-infix.ensures in
-    let tested : Tests on_left c.infix-infix.result c.args.inner c.admits_left.result = c.admits_left.ensures in
-    infix_by _ _ _ _ _ _ c.if-left-eq0.false (λ e. c.if-infix-ne0.true (f ∙ e)) (rw f at tested)
+pub returns-then-not-is_none : goal.returns-then-not-is_none
+returns-then-not-is_none c =
+    let e = ap (λ (n : Note). n.roles.«infix».code) (note_read _ _ c.index-notes-i.result c.requires) in
+    infix_by _ _ _ _ _ _ c.if-left-eq0.false (not-zero e c.is_none-2.ensures c.if-not-is_none.true) (rw e c.admits-then-not-is_none.ensures)
 
-pub returns-then-postfix-eq0 : goal.returns-then-postfix-eq0
-returns-then-postfix-eq0 c =
-    sym (postfix_none _ _ _ _ _ c.if-left-eq0.false (sym c.infix-infix.ensures ∙ omega arith) (sym c.postfix-postfix.ensures ∙ c.if-postfix-eq0.true))
+pub returns-then-is_none-3 : goal.returns-then-is_none-3
+returns-then-is_none-3 c =
+    let e = note_read _ _ c.index-notes-i.result c.requires in
+    sym
+    (postfix_none _ _ _ _ _ c.if-left-eq0.false (is-zero (ap (λ (n : Note). n.roles.«infix».code) e) c.is_none-2.ensures c.if-not-is_none.false)
+    (is-zero (ap (λ (n : Note). n.roles.postfix.code) e) c.is_none-3.ensures c.if-is_none-3.true))
 
 pub returns : goal.returns
 returns c =
-    let f = c.postfix-postfix.ensures in
-    postfix_by _ _ _ _ _ _ c.if-left-eq0.false (sym c.infix-infix.ensures ∙ omega arith) (λ e. c.if-postfix-eq0.false (f ∙ e))
-    (rw f at c.admits_left-2.ensures)
+    let e = note_read _ _ c.index-notes-i.result c.requires in
+    let p = ap (λ (n : Note). n.roles.postfix.code) e in
+    postfix_by _ _ _ _ _ _ c.if-left-eq0.false (is-zero (ap (λ (n : Note). n.roles.«infix».code) e) c.is_none-2.ensures c.if-not-is_none.false)
+    (not-zero p c.is_none-3.ensures c.if-is_none-3.false) (rw p c.admits-2.ensures)

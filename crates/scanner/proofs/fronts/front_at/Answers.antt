@@ -1,6 +1,6 @@
 -- What stands at `at` goes by the class of the byte there, and the match is that of `front_of`.
-use mathlib.Core.Path.{◌≡◌, refl, sym, ◌∙◌}
-use Prim.Native.Nat.{ℕ, ◌+◌, ◌-◌}
+use mathlib.Core.Path.{◌≡◌, refl, sym, ap, ◌∙◌}
+use Prim.Native.Nat.{◌+◌, ◌-◌}
 use native.Mathlib.Omega.{arith}
 use lib.ListN.{take, drop}
 use Rattle.grammar.specs.Bytes.{Bytes}
@@ -9,6 +9,10 @@ use Rattle.grammar.specs.Token.{atom, structure, symbol, number, opening, closin
 use Rattle.grammar.specs.Scan.{keyword_or_symbol, front_of, front}
 use Rattle.grammar.specs.Coded.{kind_of}
 use Rattle.grammar.proofs.Runs.{words, signs, numbers}
+use Rattle.byte_classes.specs.declared.classes.Class.{Class}
+use Rattle.byte_classes.specs.declared.classes.Class.TheVariants.{Opening, Closing, Semicolon}
+use Rattle.byte_classes.specs.Classes.{class_code}
+use Rattle.byte_classes.proofs.Codes.{one_class}
 use Rattle.byte_strings.proofs.Suffixes.{run-within}
 use Rattle.scanner.specs.Classes.{in_class}
 use Rattle.scanner.proofs.TokenAtFront.{front-class, front-run, front-quote, front-other}
@@ -21,52 +25,54 @@ module _ (c : After-class) where
   here = drop c.args.at c.args.text.now
 
   -- What stands at their front, if the byte is of class `k`.
-  opened : (k : ℕ) → c.class.result ≡ k → front here ≡ front_of k here
-  opened k e = front-class c.args.text.now c.args.at c.requires.1 k (sym c.class.ensures ∙ e)
+  opened : (k : Class) → c.class.result ≡ k → front here ≡ front_of (class_code k) here
+  opened k e = front-class c.args.text.now c.args.at c.requires (class_code k) (sym c.class.ensures ∙ ap class_code e)
 
 pub slice_bounds-word_kind-end : goal.slice_bounds-word_kind-end
 slice_bounds-word_kind-end c =
-    let i = c.requires.1 in
+    let i = c.requires in
     omega (arith, run-within in_word c.args.text.now (c.args.at + 1) (omega arith), c.word_end-e.ensures)
 
-pub returns-in-1 : goal.returns-in-1
-returns-in-1 c =
+pub returns-in-Letter : goal.returns-in-Letter
+returns-in-Letter c =
     let e = c.word_end-e.result in
-    rw (front-run c.args.text.now c.args.at c.requires.1 words (sym c.class.ensures ∙ c.in-1.is) e c.word_end-e.ensures)
-    (c.limited.ensures (keyword_or_symbol (take (e - c.args.at) (here (goal.at.returns-in-1 c).After-class))) (sym c.word_kind.ensures))
+    rw (front-run c.args.text.now c.args.at c.requires words (sym c.class.ensures ∙ ap class_code c.in-Letter.is) e c.word_end-e.ensures)
+    (c.limited.ensures (keyword_or_symbol (take (e - c.args.at) (here (goal.at.returns-in-Letter c).After-class))) (sym c.word_kind.ensures))
 
-pub returns-in-2 : goal.returns-in-2
+pub returns-in-Digit : goal.returns-in-Digit
 unfolding in_class in_number kind_of
-returns-in-2 c =
+returns-in-Digit c =
     let e = c.run_end.result in
-    rw (front-run c.args.text.now c.args.at c.requires.1 numbers (sym c.class.ensures ∙ c.in-2.is) e c.run_end.ensures)
-    (c.limited-in-2.ensures (atom (number (take (e - c.args.at) (here (goal.at.returns-in-2 c).After-class)))) refl)
+    rw (front-run c.args.text.now c.args.at c.requires numbers (sym c.class.ensures ∙ ap class_code c.in-Digit.is) e c.run_end.ensures)
+    (c.limited-in-Digit.ensures (atom (number (take (e - c.args.at) (here (goal.at.returns-in-Digit c).After-class)))) refl)
 
-pub returns-in-4 : goal.returns-in-4
+pub returns-in-Sign : goal.returns-in-Sign
 unfolding in_class in_sign kind_of
-returns-in-4 c =
-    let e = c.run_end-in-4.result in
-    rw (front-run c.args.text.now c.args.at c.requires.1 signs (sym c.class.ensures ∙ c.in-4.is) e c.run_end-in-4.ensures)
-    (c.limited-in-4.ensures (atom (symbol (take (e - c.args.at) (here (goal.at.returns-in-4 c).After-class)))) refl)
+returns-in-Sign c =
+    let e = c.run_end-in-Sign.result in
+    rw (front-run c.args.text.now c.args.at c.requires signs (sym c.class.ensures ∙ ap class_code c.in-Sign.is) e c.run_end-in-Sign.ensures)
+    (c.limited-in-Sign.ensures (atom (symbol (take (e - c.args.at) (here (goal.at.returns-in-Sign c).After-class)))) refl)
 
-pub returns-in-5 : goal.returns-in-5
-returns-in-5 c = rw (front-quote c.args.text.now c.args.at c.requires.1 (sym c.class.ensures ∙ c.in-5.is)) c.quoted.ensures
+pub returns-in-Quote : goal.returns-in-Quote
+returns-in-Quote c = rw (front-quote c.args.text.now c.args.at c.requires (sym c.class.ensures ∙ ap class_code c.in-Quote.is)) c.quoted.ensures
 
-pub returns-in-6 : goal.returns-in-6
+pub returns-in-Opening : goal.returns-in-Opening
 unfolding front_of kind_of structure_number
-returns-in-6 c = rw (opened (goal.at.returns-in-6 c).After-class 6 c.in-6.is) (c.solo.ensures (structure opening) refl)
+returns-in-Opening c = rw (opened (goal.at.returns-in-Opening c).After-class Opening c.in-Opening.is) (c.solo.ensures (structure opening) refl)
 
-pub returns-in-7 : goal.returns-in-7
+pub returns-in-Closing : goal.returns-in-Closing
 unfolding front_of kind_of structure_number
-returns-in-7 c = rw (opened (goal.at.returns-in-7 c).After-class 7 c.in-7.is) (c.solo-in-7.ensures (structure closing) refl)
+returns-in-Closing c = rw (opened (goal.at.returns-in-Closing c).After-class Closing c.in-Closing.is) (c.solo-in-Closing.ensures (structure closing) refl)
 
-pub returns-in-8 : goal.returns-in-8
+pub returns-in-Semicolon : goal.returns-in-Semicolon
 unfolding front_of kind_of structure_number
-returns-in-8 c = rw (opened (goal.at.returns-in-8 c).After-class 8 c.in-8.is) (c.solo-in-8.ensures (structure semicolon) refl)
+returns-in-Semicolon c = rw (opened (goal.at.returns-in-Semicolon c).After-class Semicolon c.in-Semicolon.is) (c.solo-in-Semicolon.ensures (structure semicolon) refl)
 
 pub returns-in_default : goal.returns-in_default
 returns-in_default c =
     let h = (goal.at.returns-in_default c).After-class in
-    let e = front-other c.class.result (here h) (λ i. omega arith) (λ i. omega arith) (λ i. omega arith) (λ i. omega arith)
-    (λ i. omega arith) (λ i. omega arith) (λ i. omega arith) in
+    let d = c.in_default in
+    let e = front-other (class_code c.class.result) (here h) (λ i. d.not-Letter (one_class _ _ i)) (λ i. d.not-Digit (one_class _ _ i))
+    (λ i. d.not-Sign (one_class _ _ i)) (λ i. d.not-Quote (one_class _ _ i)) (λ i. d.not-Opening (one_class _ _ i))
+    (λ i. d.not-Closing (one_class _ _ i)) (λ i. d.not-Semicolon (one_class _ _ i)) in
     rw (opened h _ refl ∙ e) refl

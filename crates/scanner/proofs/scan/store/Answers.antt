@@ -1,41 +1,41 @@
--- Each way through the match stores the kind, the place and the size that `place_of` and `size_of` give there.
-use mathlib.Core.Path.{◌≡◌}
+-- Each way through the match gives the place and the size that `place_of` and `size_of` give there.
+use mathlib.Core.Path.{◌≡◌, sym, ap, ◌∙◌}
 use native.Mathlib.Omega.{arith}
-use Rattle.rows.specs.Tokens.{size_of}
+use Rattle.rows.specs.Kinds.{kind_code}
+use Rattle.rows.specs.Tokens.{place_of, size_of}
+use Rattle.rows.proofs.KindNumbers.{same_kind}
 use Rattle.scanner.proofs.StoredToken.{
+  bracket_bounds,
   token_stored,
   quoted_place,
   quoted_size,
   other_place,
-  low_size,
   bracket_size,
-  high_size,
+  whole_size,
 }
 use Rattle.scanner.proofs.scan.store.Goals as goal
-use Rattle.scanner.proofs.scan.store.Goals.{in_default-via-then-kind-lt3, in_default-via-else-kind-lt3+else-kind-lt6}
+use Rattle.scanner.proofs.scan.store.Goals.{in-Quoted, in-Opening, in_default}
 
-pub returns-in-3 : goal.returns-in-3
-returns-in-3 c t p q =
-    token_stored _ _ _ _ c.args.n c.args.kind _ _ c.requires.within c.set_kind.ensures c.set_start.ensures c.set_size.ensures t c.args.at p
-    (quoted_place t c.args.at p q c.in-3.is) (quoted_size t c.args.at p q c.in-3.is)
-
-pub returns-in-4 : goal.returns-in-4
-returns-in-4 c t p q =
-    token_stored _ _ _ _ c.args.n c.args.kind _ _ c.requires.within c.set_kind.ensures c.set_start-in-4.ensures c.set_size-in-4.ensures
-    t c.args.at p (other_place t c.args.at p q (λ e. omega arith)) (bracket_size t c.args.at p q (λ e. omega arith) (omega arith) (omega arith))
-
-pub returns-in_default : goal.returns-in_default
-returns-in_default c t p q =
-    -- Two ways lead into the last arm.
-    let whole : size_of t ≡ c.args.size =
-    elim c.in_default.branch [
-      | in_default-via-then-kind-lt3 w ↦ low_size t c.args.at p q (λ e. omega arith) (omega arith)
-      | in_default-via-else-kind-lt3+else-kind-lt6 w ↦ high_size t c.args.at p q (λ e. omega arith) (omega arith) (omega arith)
+pub returns : goal.returns
+returns c t p q =
+    let at = c.args.at in
+    let place : place_of t at ≡ c.match-kind.start.0 =
+    elim c.match-kind.branch [
+      | in-Quoted w ↦ quoted_place t at p q (ap kind_code w.in-Quoted.is) ∙ sym (ap (λ x. x.0) w.start-is)
+      | in-Opening w ↦
+          other_place t at p q (λ e. omega (arith, bracket_bounds _ w.in-Opening.is)) ∙ sym (ap (λ x. x.0) w.start-is)
+      | in_default w ↦ other_place t at p q (λ e. w.in_default.not-Quoted (same_kind _ _ e)) ∙ sym (ap (λ x. x.0) w.start-is)
     ] in
-    let other : c.args.kind ≡ 3 → ⊥ = λ e.
-    elim c.in_default.branch [
-      | in_default-via-then-kind-lt3 w ↦ omega arith
-      | in_default-via-else-kind-lt3+else-kind-lt6 w ↦ omega arith
+    let size : size_of t ≡ c.match-kind.start.1 =
+    elim c.match-kind.branch [
+      | in-Quoted w ↦ quoted_size t at p q (ap kind_code w.in-Quoted.is) ∙ sym (ap (λ x. x.1) w.start-is)
+      | in-Opening w ↦
+          let b = bracket_bounds _ w.in-Opening.is in
+          bracket_size t at p q (λ e. omega (arith, b)) (omega (arith, b)) (omega (arith, b)) ∙ sym (ap (λ x. x.1) w.start-is)
+      | in_default w ↦
+          let d = w.in_default in
+          whole_size t at p q (λ e. d.not-Quoted (same_kind _ _ e)) (λ e. d.not-Opening (same_kind _ _ e))
+          (λ e. d.not-Closing (same_kind _ _ e))
+          ∙ sym (ap (λ x. x.1) w.start-is)
     ] in
-    token_stored _ _ _ _ c.args.n c.args.kind _ _ c.requires.within
-    c.set_kind.ensures c.set_start-in_default.ensures c.set_size-in_default.ensures t c.args.at p (other_place t c.args.at p q other) whole
+    token_stored c.args.tokens.now c.args.n _ c.requires.within t at p place size

@@ -1,24 +1,21 @@
--- The tests tell the kinds apart; a symbol is an operator if its bytes have the number of one.
-use mathlib.Core.Path.{ap, ◌∙◌}
-use mathlib.Core.Logic.{inl, inr}
-use native.Mathlib.Omega.{arith}
-use Rattle.rows.proofs.Stored.{part_ends, part_written, stored_kinds}
-use Rattle.starting_operators.specs.Starting.{start_number}
-use Rattle.starting_operators.proofs.Numbers.{computed_count, beyond_unnumbered}
+-- The kind tells; a symbol is an operator if its bytes have the number of one.
+use mathlib.Core.Path.{refl, sym, ◌∙◌}
+use borrow.Author.Rules.{rules}
+use mathlib.Core.Logic.{inl}
+use Rattle.rows.proofs.Stored.{stored_within, part_written}
+use Rattle.starting_operators.proofs.Numbers.{some_number, none_number_is}
 use Rattle.starting_operators.proofs.NotedTokens.{stands}
 use Rattle.starting_operators.proofs.notes.classify.Goals as goal
 
 pub slice_bounds-number-end : goal.slice_bounds-number-end
-slice_bounds-number-end c =
-    let (n, R, g, h) = c.requires.0 in omega (arith, part_ends g.stored _ (stands g h) c.start-start.ensures c.size-size.ensures)
+slice_bounds-number-end c = let (n, R, g, h) = c.requires.0 in stored_within g.stored _ (stands g h)
 
-pub returns-else-entry-lt-COUNT : goal.returns-else-entry-lt-COUNT
-unfolding computed_count
-returns-else-entry-lt-COUNT c =
-    let e = c.number-entry.ensures ∙ ap start_number (part_written _ c.args.tokens.now c.args.i c.start-start.ensures c.size-size.ensures) in
-    (c.start-start.ensures, c.size-size.ensures, inl (omega arith, beyond_unnumbered _ (omega arith)))
+pub returns-in-Some : goal.returns-in-Some
+returns-in-Some c =
+    let e = sym c.number.ensures ∙ c.in-Some.is in
+    (search rules, rw (part_written _ c.args.tokens.now c.args.i refl refl) at (some_number _ _ e).1)
 
-pub returns-else-kind-eq-SYMBOL : goal.returns-else-kind-eq-SYMBOL
-returns-else-kind-eq-SYMBOL c =
-    let (n, R, g, h) = c.requires.0 in
-    (c.start-start.ensures, c.size-size.ensures, inr (omega (arith, stored_kinds g.stored c.args.i (stands g h))))
+pub returns-in-None : goal.returns-in-None
+returns-in-None c =
+    let e = sym c.number.ensures ∙ c.in-None.is in
+    (refl, refl, inl (search rules, rw (part_written _ c.args.tokens.now c.args.i refl refl) at (none_number_is _ e)))

@@ -1,25 +1,18 @@
--- Suffix style: the words from those of the entry up to `k` hold what stood five places behind, the rest is as it was.
+-- The entries from the one that was found up to `k` hold what stood one place behind; the rest is as it was.
 use mathlib.Core.Path.{◌≡◌}
-use Prim.Native.Nat.{ℕ, ◌+◌, ◌-◌, ◌*◌, ◌≤◌, ◌<◌}
+use Prim.Native.Nat.{ℕ, ◌≤◌}
 use lib.ListN.{length}
+use Rattle.operators.specs.Entries.{entry}
 use Rattle.operators.specs.declared.table.Table.{Table}
 use Rattle.operators.proofs.Clearing.{Moved}
 use Rattle.operators.proofs.table.Table.clear.Given as goal
 
--- The table before, where it ends, and what has moved.
-pub record Turned (t : Table) (entry last end : ℕ) (u : Table) (k : ℕ) : Type 0 where
-  pub long : length t.words ≡ 320
-  pub sized : last + 1 ≤ 64
-  pub counted : last + 1 ≡ t.count
-  pub within : entry < t.count
-  pub ended : end ≡ last * 5
-  pub above : entry * 5 ≤ k
-  pub below : k ≤ end
-  pub words : Moved t.words (entry * 5) k u.words
+pub record Turned (t : Table) (at : ℕ) (u : Table) (k : ℕ) : Type 0 where
+  pub long : length u.entries ≡ 64
+  pub moved : Moved t.entries at k u.entries
+  pub rest : (j : ℕ) → k ≤ j → entry u.entries j ≡ entry t.entries j
   pub hints : u.hints ≡ t.hints
+  pub counted : u.count ≡ t.count
 
 abbrev pub invariant-loop-k : goal.invariant-loop-k
-invariant-loop-k l = Turned l.initial.self l.entry l.last l.end l.self l.k
-
-abbrev pub decreases-loop-k : goal.decreases-loop-k
-decreases-loop-k l = l.end - l.k
+invariant-loop-k l = Turned l.initial.self l.entry l.self l.k

@@ -1,0 +1,19 @@
+// A refusal by its number, as `reader::Answer` has it for C, and the place of the fault, which prints as `refused N at P`.
+use std::fmt;
+
+#[derive(Clone, Copy)]
+pub struct Refusal {
+    pub number: u8,
+    pub offset: usize,
+}
+
+impl fmt::Display for Refusal {
+    ghost use Rattle.std.specs.Prelude.{Some};
+    ghost use Rattle.listing.specs.Outcome.{refusal_output};
+
+    ghost output = { λ r. Some (refusal_output r) };
+
+    fn fmt<W: fmt::Write>(&self, f: &mut fmt::Formatter<W>) -> fmt::Result {
+        write!(f, "refused {} at {}", self.number, self.offset)
+    }
+}
