@@ -27,8 +27,8 @@ use Rattle.reader.specs.Answered.{result_of, Reads, Canonicalizes}
 use Rattle.reader.proofs.Fits.{count_fits, canonical_count_fits}
 use Rattle.std.proofs.Common.{Ok, Err, codes}
 use Rattle.std.specs.Fmt as P
-use Rattle.listing.specs.declared.refusal.Refusal.{Refusal}
-use Rattle.listing.specs.Outcome.{outcome_of, refusal_output}
+use Rattle.listing.specs.declared.error.NumberedError.{NumberedError}
+use Rattle.listing.specs.Outcome.{outcome_of, error_output}
 use Rattle.listing.proofs.Digits.{printed_decimal}
 use Rattle.listing.proofs.Outcomes.{outcome-counted, outcome-refused}
 use Rattle.listing.proofs.Places.{read_offset, canonicalize_offset}
@@ -39,8 +39,8 @@ regroup a b c d z = simp append_assoc refl
 -- What is printed of an answer whose number, place and count have at most ten digits.
 module _ (a : Answer) (B : List ℕ) where
   refused_line
-      : (r : Refusal) → outcome_of a ≡ Err r → a.number < 10 ^ 10 → a.offset < 10 ^ 10
-      → refusal_output r ++ newline ≡ refusal_line (result_of a B).answer
+      : (r : NumberedError) → outcome_of a ≡ Err r → a.number < 10 ^ 10 → a.offset < 10 ^ 10
+      → error_output r ++ newline ≡ refusal_line (result_of a B).answer
   unfolding refusal_line result_of
   refused_line r e h k =
       rw ((outcome-refused a r e).1, printed_decimal a.number h, printed_decimal a.offset k)
@@ -55,8 +55,8 @@ module _ (a : Answer) (B : List ℕ) where
       rw (eq-eqb a.number 0 o.0, canonical_lines, o.1, printed_decimal n h) (sym (append_assoc (bytes "tidy " ++ decimal n ++ newline) (take n B) newline))
 
   canonical_refused
-      : (r : Refusal) → outcome_of a ≡ Err r → a.number < 10 ^ 10 → a.offset < 10 ^ 10
-      → refusal_output r ++ newline ≡ canonical_lines (result_of a B)
+      : (r : NumberedError) → outcome_of a ≡ Err r → a.number < 10 ^ 10 → a.offset < 10 ^ 10
+      → error_output r ++ newline ≡ canonical_lines (result_of a B)
   unfolding canonical_lines result_of
   canonical_refused r e h k = rw (ne_eqb a.number 0 (outcome-refused a r e).0, canonical_lines) (refused_line r e h k)
 
@@ -69,8 +69,8 @@ module _ (a : Answer) (B : List ℕ) where
       rw (eq-eqb a.number 0 o.0, listing_of, o.1, printed_decimal n h) refl
 
   reading_refused
-      : (C : G.Result) (r : Refusal) → outcome_of a ≡ Err r → a.number < 10 ^ 10 → a.offset < 10 ^ 10
-      → refusal_output r ++ newline ≡ listing_of (result_of a B) C
+      : (C : G.Result) (r : NumberedError) → outcome_of a ≡ Err r → a.number < 10 ^ 10 → a.offset < 10 ^ 10
+      → error_output r ++ newline ≡ listing_of (result_of a B) C
   unfolding listing_of result_of
   reading_refused C r e h k = rw (ne_eqb a.number 0 (outcome-refused a r e).0, listing_of) (refused_line r e h k)
 
@@ -89,7 +89,7 @@ module _ (text B' : List ℕ) (a : Answer) (e : Canonicalizes text (replicate lo
       canonical_counted a B' n o small ∙ ap canonical_lines e
 
   pub canonical-refusal_printed
-      : (r : Refusal) → outcome_of a ≡ Err r → refusal_output r ++ newline ≡ canonical_lines (G.canonicalize text (replicate longest_text 0))
+      : (r : NumberedError) → outcome_of a ≡ Err r → error_output r ++ newline ≡ canonical_lines (G.canonicalize text (replicate longest_text 0))
   unfolding result_of
   canonical-refusal_printed r o =
       let C : List ℕ = replicate longest_text 0 in
@@ -111,7 +111,7 @@ module _ (text N' : List ℕ) (a : Answer) (e : Reads text (replicate (words_per
       omega (arith, count_fits text N N' a e, length-replicate {A = ℕ} (words_per_node * most_tokens) 0, (outcome-counted a n o).1) in
       reading_counted a N' C n o small ∙ ap (λ (r : G.Result). listing_of r C) e
 
-  pub reading-refusal_printed : (r : Refusal) → outcome_of a ≡ Err r → refusal_output r ++ newline ≡ printed text
+  pub reading-refusal_printed : (r : NumberedError) → outcome_of a ≡ Err r → error_output r ++ newline ≡ printed text
   unfolding printed listing result_of
   reading-refusal_printed r o =
       let N : List ℕ = replicate (words_per_node * most_tokens) 0 in

@@ -9,11 +9,11 @@ ghost use Rattle.grammar.specs.Fault.{longest_text};
 ghost use Rattle.listing.specs.Lines.{answer_text, outcome_text, most_nodes};
 ghost use Rattle.listing.specs.Outcome.{outcome_of};
 
+mod error;
 mod node;
-mod refusal;
 
+use crate::error::NumberedError;
 use crate::node::Node;
-use crate::refusal::Refusal;
 use nodes::node::WORDS;
 use reader::Answer;
 use std::io;
@@ -27,20 +27,20 @@ const TABLE: usize = NODES * WORDS;
 // The most bytes that canonical text has.
 const LONGEST: usize = 16384;
 
-// What an answer says: the count, or the refusal.
-fn outcome(a: Answer) -> Result<usize, Refusal>
+// What an answer says: the count, or the error.
+fn outcome(a: Answer) -> Result<usize, NumberedError>
     ensures { result ≡ outcome_of a }
 {
     if a.number == 0 {
         return Ok(a.count);
     }
-    Err(Refusal {
+    Err(NumberedError {
         number: a.number,
         offset: a.offset,
     })
 }
 
-// Writes an answer, with no line end: `word` and the count, or the refusal.
+// Writes an answer, with no line end: `word` and the count, or the error.
 pub fn print_answer<W: Write>(out: &mut W, word: &[u8], a: Answer) -> io::Result<()>
     ensures { OnOk result (Appends (W.contents out.old) (W.contents out.new) (answer_text word.now a)) }
 {
@@ -49,7 +49,7 @@ pub fn print_answer<W: Write>(out: &mut W, word: &[u8], a: Answer) -> io::Result
             out.write_all(word)?;
             write!(out, " {count}")
         }
-        Err(refusal) => write!(out, "{refusal}"),
+        Err(error) => write!(out, "{error}"),
     }
 }
 
@@ -61,13 +61,13 @@ fn print_line<W: Write>(out: &mut W, line: &[u8]) -> io::Result<()>
     out.write_all(b"\n")
 }
 
-// Writes the answer of a service that counts nothing, and a line end: `word`, or the refusal.
+// Writes the answer of a service that counts nothing, and a line end: `word`, or the error.
 pub fn print_outcome<W: Write>(out: &mut W, word: &[u8], a: Answer) -> io::Result<()>
     ensures { OnOk result (Appends (W.contents out.old) (W.contents out.new) (outcome_text word.now a ++ newline)) }
 {
     match outcome(a) {
         Ok(_) => print_line(out, word),
-        Err(refusal) => writeln!(out, "{refusal}"),
+        Err(error) => writeln!(out, "{error}"),
     }
 }
 
@@ -83,7 +83,7 @@ fn print_nodes<W: Write>(out: &mut W, nodes: &[u32; TABLE], count: usize) -> io:
     Ok(())
 }
 
-// Canonicalizes a text and prints the length and the bytes of the canonical text, or the refusal.
+// Canonicalizes a text and prints the length and the bytes of the canonical text, or the error.
 fn print_canonical<W: Write>(out: &mut W, text: &[u8]) -> io::Result<()>
     ensures { OnOk result (Appends (W.contents out.old) (W.contents out.new) (canonical_lines (G.canonicalize text.now (replicate longest_text 0)))) }
 {
@@ -93,7 +93,7 @@ fn print_canonical<W: Write>(out: &mut W, text: &[u8]) -> io::Result<()>
             writeln!(out, "tidy {count}")?;
             print_line(out, &buffer[..count])
         }
-        Err(refusal) => writeln!(out, "{refusal}"),
+        Err(error) => writeln!(out, "{error}"),
     }
 }
 
@@ -108,6 +108,6 @@ pub fn print_listing<W: Write>(out: &mut W, text: &[u8]) -> io::Result<()>
             print_nodes(out, &nodes, count)?;
             print_canonical(out, text)
         }
-        Err(refusal) => writeln!(out, "{refusal}"),
+        Err(error) => writeln!(out, "{error}"),
     }
 }

@@ -11,5 +11,5 @@ returns-in_ok-write_all-in-Ok g c =
 
 pub returns-in-Err : goal.returns-in-Err
 returns-in-Err g c =
-    ok_same c.write-in-Err.result _ _ (answer-refused c.args.a c.args.word.now c.in-Err.refusal (search rules) (search rules) (search rules))
+    ok_same c.write-in-Err.result _ _ (answer-refused c.args.a c.args.word.now c.in-Err.error (search rules) (search rules) (search rules))
     c.write-in-Err.ensures.bytes

@@ -42,5 +42,5 @@ pub returns-in-Err : goal.returns-in-Err
 returns-in-Err g c =
     let a = c.canonicalize in
     ok_same c.writeln-in-Err.result _ _
-    (canonical-refusal_printed c.args.text.now a.new.buffer a.result a.ensures c.in-Err.refusal (search rules))
+    (canonical-refusal_printed c.args.text.now a.new.buffer a.result a.ensures c.in-Err.error (search rules))
     c.writeln-in-Err.ensures.bytes

@@ -34,5 +34,5 @@ pub returns-in-Err : goal.returns-in-Err
 returns-in-Err g c =
     let a = c.read in
     ok_same c.writeln-in-Err.result _ _
-    (reading-refusal_printed c.args.text.now a.new.nodes a.result a.ensures c.in-Err.refusal (search rules))
+    (reading-refusal_printed c.args.text.now a.new.nodes a.result a.ensures c.in-Err.error (search rules))
     c.writeln-in-Err.ensures.bytes

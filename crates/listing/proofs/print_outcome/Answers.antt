@@ -18,5 +18,5 @@ pub returns-in-Err : goal.returns-in-Err
 returns-in-Err g c =
     ok_same c.writeln.result _ _
     (ap (λ (x : Bytes). x ++ newline)
-    (outcome_text-refused c.args.a c.args.word.now c.in-Err.refusal (search rules) (search rules) (search rules)))
+    (outcome_text-refused c.args.a c.args.word.now c.in-Err.error (search rules) (search rules) (search rules)))
     c.writeln.ensures.bytes

@@ -21,7 +21,8 @@ use Rattle.climb.specs.Searched.{RootsKept, Rows, InForce, Searched}
 use Rattle.climb.proofs.Arrives.{note_read, beside_read}
 use Rattle.climb.proofs.Pass.{Next, next_bound}
 use Rattle.climb.proofs.Coming.{OperandAt, operand_at}
-use Rattle.climb.proofs.Climbing.{begins, top, bounds, top_bounds, Halts, refuses, untaken_here, takes_operand, next_operator, next_last, closes, Stops, refused_here, waits, left_over, nothing_read, ends}
+use Rattle.climb.proofs.Climbing.{begins, top, bounds, top_bounds, Halts, refuses, untaken_here, takes_operand, next_operator, next_last}
+use Rattle.climb.proofs.Climbing.{closes, Stops, refused_here, waits, left_over, nothing_read, ends}
 use Rattle.climb.proofs.Found.{lost_at}
 use Rattle.climb.proofs.Kept.{kept_all, kept_then, set_here, set_other, set_kept}
 use Rattle.climb.proofs.search.root.Invariants.{Stands}

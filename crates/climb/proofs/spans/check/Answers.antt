@@ -120,7 +120,8 @@ next k s =
     s
 
 searched-at :
-    {K : TokenRow} {R : NoteRow} {O : RootRow} {P : RootRow} {r : Result ℕ Lost} {from to from' to' : ℕ} → from ≡ from' → to ≡ to' → Searched K R from to O P r → Searched K R from' to' O P r
+    {K : TokenRow} {R : NoteRow} {O P : RootRow} {r : Result ℕ Lost} {from to from' to' : ℕ} → from ≡ from' → to ≡ to'
+    → Searched K R from to O P r → Searched K R from' to' O P r
 searched-at e f s = rw (← e, ← f) s
 
 -- It has a tree.

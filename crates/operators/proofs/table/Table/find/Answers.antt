@@ -25,14 +25,18 @@ returns-then-hint-eq0 c =
     sym (unhinted _ _ c.requires.0 _ (ap (λ h. get_or c.args.self.now.hints h 0) (sym c.hash.ensures.0) ∙ c.if-hint-eq0.true))
 
 pub returns-then-is_named : goal.returns-then-is_named
-returns-then-is_named c = sym (found_named _ _ c.requires.0 _ _ (omega arith) (named _ _ c.args.self.now.entries _ c.index-self-entry.result (omega arith) (sym c.is_named.ensures ∙ c.if-is_named.true)))
+returns-then-is_named c =
+    let e = sym c.is_named.ensures ∙ c.if-is_named.true in
+    sym (found_named _ _ c.requires.0 _ _ (omega arith) (named _ _ c.args.self.now.entries _ c.index-self-entry.result (omega arith) e))
 
 pub loop-i-init : goal.loop-i-init
 loop-i-init c = find_all _ _ _ _
 
 pub returns-then-is_named-2 : goal.returns-then-is_named-2
 returns-then-is_named-2 c =
-    sym (c.loop-i.invariant ∙ find_here _ _ _ _ _ c.loop-i-test.true (named _ _ c.args.self.now.entries _ c.index-self-i.result (omega arith) (sym c.is_named-in-loop-i.ensures ∙ c.if-is_named-2.true)))
+    let e = sym c.is_named-in-loop-i.ensures ∙ c.if-is_named-2.true in
+    let h = named _ _ c.args.self.now.entries _ c.index-self-i.result (omega arith) e in
+    sym (c.loop-i.invariant ∙ find_here _ _ _ _ _ c.loop-i-test.true h)
 
 pub loop-i-preserved : goal.loop-i-preserved
 loop-i-preserved c =
