@@ -144,7 +144,10 @@ cases =
           189 ∷ 163 ∷ 217 ∷ 83 ∷ 23 ∷ 184 ∷ 64 ∷ 168 ∷ []);
       listing = bytes "refused 2 at 1\n";
     }
-    ∷ record { text = bytes "let in let plain or ; infix non 0621 ^ ; in let plain = ; in 'given-name' end * let infix non 000000982 in_ ; in left end end end"; listing = bytes "refused 17 at 17\n" }
+    ∷ record {
+      text = bytes "let in let plain or ; infix non 0621 ^ ; in let plain = ; in 'given-name' end * let infix non 000000982 in_ ; in left end end end";
+      listing = bytes "refused 17 at 17\n";
+    }
     ∷ record { text = bytes "sn = '00'"; listing = bytes "read 3\n0 name 0 0 0 2 0\n1 name 0 0 6 2 0\n2 infix 0 1 3 1 500\ntidy 9\nsn = '00'\n" }
     ∷ record { text = bytes "00000007 00000007"; listing = bytes "refused 11 at 0\n" }
     ∷ record {
@@ -477,7 +480,10 @@ cases =
       text = bytes "not let prefix right 1 in_ ; in Year_7 end";
       listing = bytes "read 3\n0 name 0 0 32 6 0\n1 block 0 0 4 27 0\n2 prefix 1 0 0 3 600\ntidy 42\nnot let prefix right 1 in_ ; in Year_7 end\n";
     }
-    ∷ record { text = bytes "( ( ( 1000 / 999999 ) * ( ( 10 * 7 ) * ( - 0 ) ) ) - ( ( 31622 + ( 2 * 999 ) ) - 788987554 ) ) / ( ( 999 * 10 ) + ( 999999++ 0 ) )"; listing = bytes "refused 11 at 0\n" }
+    ∷ record {
+      text = bytes "( ( ( 1000 / 999999 ) * ( ( 10 * 7 ) * ( - 0 ) ) ) - ( ( 31622 + ( 2 * 999 ) ) - 788987554 ) ) / ( ( 999 * 10 ) + ( 999999++ 0 ) )";
+      listing = bytes "refused 11 at 0\n";
+    }
     ∷ record {
       text = bytes "let plain-;infix left 300-;postfix left 300-;in z_=yfx- *plain+(7+ #or 7+a)end";
       listing =
@@ -534,7 +540,10 @@ cases =
           ++ bytes "2 1 300\n17 block 16 0 1 133 0\ntidy 187\nlet plain left ; prefix right 250 left ; postfix left 250 left ; plain s ; prefix right "
           ++ bytes "300 s ; postfix left 300 s ; in Year_7 * ( left yfx left * ( op left + 707924696 ) + foo left ) end\n";
     }
-    ∷ record { text = bytes "let plain*;in# <7end"; listing = bytes "read 4\n0 name 0 0 13 1 0\n1 number 0 0 16 1 0\n2 infix 0 1 15 1 500\n3 block 2 0 0 13 0\ntidy 26\nlet plain * ; in # < 7 end\n" }
+    ∷ record {
+      text = bytes "let plain*;in# <7end";
+      listing = bytes "read 4\n0 name 0 0 13 1 0\n1 number 0 0 16 1 0\n2 infix 0 1 15 1 500\n3 block 2 0 0 13 0\ntidy 26\nlet plain * ; in # < 7 end\n";
+    }
     ∷ record { text = bytes "let in let infix left 600 not ; in a end end"; listing = bytes "refused 17 at 26\n" }
     ∷ record {
       text =
@@ -548,7 +557,10 @@ cases =
     }
     ∷ record { text = bytes "not in in s s plain ' ' right s"; listing = bytes "refused 6 at 4\n" }
     ∷ record { text = bytes "let plain - ; infix non 250 - ; postfix non 250 - ; in 1 - 1 - 1 a - a a end"; listing = bytes "refused 11 at 52\n" }
-    ∷ record { text = (40 ∷ 32 ∷ 40 ∷ 32 ∷ 97 ∷ 32 ∷ 42 ∷ 8 ∷ 32 ∷ 52 ∷ 57 ∷ 52 ∷ 56 ∷ 52 ∷ 53 ∷ 54 ∷ 53 ∷ 32 ∷ 41 ∷ 32 ∷ 43 ∷ 32 ∷ 51 ∷ 32 ∷ 41 ∷ []); listing = bytes "refused 2 at 7\n" }
+    ∷ record {
+      text = (40 ∷ 32 ∷ 40 ∷ 32 ∷ 97 ∷ 32 ∷ 42 ∷ 8 ∷ 32 ∷ 52 ∷ 57 ∷ 52 ∷ 56 ∷ 52 ∷ 53 ∷ 54 ∷ 53 ∷ 32 ∷ 41 ∷ 32 ∷ 43 ∷ 32 ∷ 51 ∷ 32 ∷ 41 ∷ []);
+      listing = bytes "refused 2 at 7\n";
+    }
     ∷ record {
       text = bytes "(++)*(x1 or infix)";
       listing =
