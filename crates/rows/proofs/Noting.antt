@@ -6,7 +6,6 @@ use Prim.Native.Nat.{ℕ, suc, ◌≤◌, ◌<◌}
 use native.Mathlib.Omega.{arith}
 use lib.Dec.{eqb}
 use lib.ListN.{set, length-set}
-use lib.Seq.{get_or-set_same, get_or-set_other}
 use borrow.Author.Tests.{eq-eqb, ne_eqb}
 use Rattle.grammar.specs.Bytes.{Bytes}
 use Rattle.grammar.specs.Token.{Atom, symbol, number, quoted, undoubled}
@@ -18,6 +17,7 @@ use Rattle.rows.specs.Fields.{TokenRow, NoteRow, no_note, note, kind, prefix, in
 use Rattle.rows.specs.Codes.{role_code}
 use Rattle.rows.specs.Tokens.{written_of, atom_of, atom_in, IsAtomKind}
 use Rattle.rows.specs.Agreeing.{roles_for, arrival_for, Noted, KeptOutside, NotedAt, NameNoted}
+use Rattle.rows.proofs.Fields.{same_entry, other_entry}
 
 -- What is kept twice is kept.
 pub kept_none : (R : NoteRow) (from to : ℕ) → KeptOutside R from to R
@@ -47,9 +47,9 @@ pub record WordsAt (R : NoteRow) (i p q s a : ℕ) (R' : NoteRow) : Type 0 where
 
 module _ (i : ℕ) where
   set_outside : (R : NoteRow) (n : Note) → KeptOutside R i (suc i) (set R i n)
-  set_outside R n = record { long = length-set R i n; same = λ j o. get_or-set_other R i j n no_note (apart o) }
+  set_outside R n = record { long = length-set R i n; same = λ j o. other_entry R i j n no_note (apart o) }
     where
-      apart : {j : ℕ} → (j < i) ⊎ (suc i ≤ j) → j ≡ i → ⊥
+      apart : {j : ℕ} → (j < i) ⊎ (suc i ≤ j) → i ≡ j → ⊥
       apart (inl l) e = omega arith
       apart (inr l) e = omega arith
 
@@ -57,7 +57,7 @@ module _ (i : ℕ) where
       {R R' : NoteRow} {p q s a : ℕ} (n : Note) → Within R i → R' ≡ set R i n → n.roles.prefix.code ≡ p → n.roles.«infix».code ≡ q
       → n.roles.postfix.code ≡ s → n.arrival ≡ a → WordsAt R i p q s a R'
   words_stored {R} {R'} n w e x y z v =
-      let f : note R' i ≡ n = rw e (get_or-set_same R i n no_note w.1) in
+      let f : note R' i ≡ n = rw e (same_entry R i n no_note w.1) in
       record { prefixed = cc; between = cc; postfixed = cc; arrives = cc; kept = rw e (set_outside R n) }
 
 -- Those that an atom has.
