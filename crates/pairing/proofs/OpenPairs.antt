@@ -1,6 +1,6 @@
 -- The tokens read so far, by what is open: items one behind the other up to the outermost opener, and from each opener to the next.
 -- A closer is stored at the innermost opener, which stands in none of these items, so they are kept; then its pair is an item too.
-use mathlib.Core.Path.{◌≡◌, refl, ap, ◌∙◌}
+use mathlib.Core.Path.{◌≡◌, refl, sym, ap, ◌∙◌}
 use mathlib.Core.List.{List, [], ◌∷◌}
 use Prim.Native.Nat.{ℕ, suc, ◌≤◌, ◌<◌}
 use native.Mathlib.Omega.{arith}
@@ -10,8 +10,9 @@ use Rattle.grammar.specs.Open.{Open, in_bracket, in_declarations, in_body, Outsi
 use Rattle.grammar.proofs.Logic.{below}
 use Rattle.rows.specs.declared.token.Token.{Token}
 use Rattle.rows.specs.Kinds.{kind_code}
-use Rattle.rows.specs.Fields.{TokenRow, blank, token, kind, start, size, closer, Holds}
+use Rattle.rows.specs.Fields.{TokenRow, blank, token, kind, closer, Holds}
 use Rattle.rows.specs.Tokens.{Paired, done, single, bracket, block, IsAtomKind, IsQuietKind}
+use Rattle.rows.proofs.Fields.{store_same, other-field, other_entry}
 use Rattle.rows.proofs.PairedCases.{paired_ordered}
 use Rattle.pairing.specs.declared.Innermost.{Innermost}
 use Rattle.pairing.specs.declared.Innermost.TheVariants.{Nothing, Bracket, Declarations, Body}
@@ -113,40 +114,27 @@ module _ {K : TokenRow} {S : List OpenPair} where
   pairs_below j x h (one_more {os = os} r s b w) =
       one_more r (get_or-set_other S j (suc (length os)) x no_pair (λ e. omega arith) ∙ s) b (pairs_below j x (omega arith) w)
 
--- The same place or another one.
-here_or_there : {X : Type 0} (a j : ℕ) → (j ≡ a → X) → ((j ≡ a → ⊥) → X) → X
-here_or_there a j f g = below j a (λ l. g (λ e. omega arith)) (λ h. below a j (λ l. g (λ e. omega arith)) (λ k. f (omega arith)))
-
--- A token with the same kind, start and size.
-alike :
-    {K K' : TokenRow} {j : ℕ} {t : Token} → token K' j ≡ t → kind_code t.kind ≡ kind K j → t.start ≡ start K j → t.size ≡ size K j
-    → KeptToken K K' j
-alike e k s z =
-    record {
-      kinds = ap (λ (t : Token). kind_code t.kind) e ∙ k;
-      starts = ap (λ (t : Token). t.start) e ∙ s;
-      sizes = ap (λ (t : Token). t.size) e ∙ z;
-    }
-
 -- The closer `v` stored at token `a`.
 module _ (K : TokenRow) (a v : ℕ) (w : a < length K) where
-  token_new : token (close_at K a v) a ≡ closed_by (token K a) v
-  token_new = get_or-set_same K a (closed_by (token K a) v) blank w
-
-  token_other : (j : ℕ) → (j ≡ a → ⊥) → token (close_at K a v) j ≡ token K j
-  token_other j d = get_or-set_other K a j (closed_by (token K a) v) blank d
+  abbrev stored : Token
+  stored = closed_by (token K a) v
 
   pub kept_stored : (j : ℕ) → KeptToken K (close_at K a v) j
-  kept_stored j = here_or_there a j (λ e. rw e (alike token_new refl refl refl)) (λ d. alike (token_other j d) refl refl refl)
+  kept_stored j =
+      record {
+        kinds = other-field (λ (t : Token). kind_code t.kind) K a j stored blank refl;
+        starts = other-field (λ (t : Token). t.start) K a j stored blank refl;
+        sizes = other-field (λ (t : Token). t.size) K a j stored blank refl;
+      }
 
   kind_stored : (j : ℕ) → kind (close_at K a v) j ≡ kind K j
   kind_stored j = (kept_stored j).kinds
 
   closer_stored : (j : ℕ) → (j ≡ a → ⊥) → closer (close_at K a v) j ≡ closer K j
-  closer_stored j d = ap (λ (t : Token). t.closer) (token_other j d)
+  closer_stored j d = ap (λ (t : Token). t.closer) (other_entry K a j stored blank (λ e. d (sym e)))
 
   closer_new : closer (close_at K a v) a ≡ v
-  closer_new = ap (λ (t : Token). t.closer) token_new
+  closer_new = store_same (λ (t : Token). t.closer) K a stored blank w
 
   quiet_stored : {i n : ℕ} → Quiet K i n → Quiet (close_at K a v) i n
   quiet_stored f j x y = rw (kind_stored j) (f j x y)
