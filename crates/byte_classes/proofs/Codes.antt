@@ -1,4 +1,4 @@
--- A test of two classes for equality is one of their numbers.
+-- A class as a number is its number, so a test of two classes for equality is one of their numbers.
 use mathlib.Core.Path.{◌≡◌, refl, sym, ap, ◌∙◌}
 use lib.Dec.{eqb}
 use denote.Enum.Bare.{sameb, tag_one}
@@ -19,7 +19,7 @@ use Rattle.byte_classes.specs.declared.classes.Class.TheVariants.{
 }
 use Rattle.byte_classes.specs.Classes.{class_code}
 
-tag_code : (a : Class) → tag_of the_type a ≡ class_code a
+pub tag_code : (a : Class) → tag_of the_type a ≡ class_code a
 tag_code Blank = refl
 tag_code Letter = refl
 tag_code Digit = refl

@@ -22,7 +22,7 @@ fn is_symbol(name: &[u8]) -> bool
     ensures { result ≡ is_symbol name.now }
 {
     match classes::class(name[0]) {
-        Class::Sign => runs::run_end(name, 0, Class::Sign) == name.len(),
+        Class::Sign => runs::run_end(name, 0, Class::Sign as u8) == name.len(),
         Class::Letter => {
             runs::word_end(name, 0) == name.len() && fronts::word_kind(name) == Kind::Symbol
         }

@@ -9,7 +9,6 @@ use native.Mathlib.Omega.{arith}
 use lib.Dec.{eqb, ltb}
 use lib.ListN.{length, set, length-append}
 use borrow.Author.Tests.{eq-eqb, ne_eqb, lt-ltb, le-ltb}
-use Rattle.std.proofs.lemmas.List.{get_or-set_same, get_or-set_other}
 use Rattle.grammar.proofs.Logic.{below}
 use Rattle.grammar.specs.Token.{Token, atom, structure, symbol, number, quoted, as_written, doubled, spelling, structure_number}
 use Rattle.grammar.specs.Token.{opening, closing, semicolon, keyword_let, keyword_in, keyword_end}
@@ -20,6 +19,7 @@ use Rattle.rows.specs.declared.token.Kind.TheVariants.{Opening, Closing}
 use Rattle.rows.specs.Kinds.{kind_code}
 use Rattle.rows.specs.Fields.{TokenRow, token, blank, Within}
 use Rattle.rows.specs.Tokens.{place_of, size_of, structure_size}
+use Rattle.rows.proofs.Fields.{same_entry, other_entry}
 use Rattle.scanner.specs.Scanning.{TokenStored}
 
 -- By the kind: the bytes of a quoted name stand between the quotes, and of brackets there are none.
@@ -61,7 +61,7 @@ bracket_bounds k (inr e) = omega (arith, ap kind_code e)
 -- An entry of the row is stored.
 module _ (K : TokenRow) (n : ℕ) (x : Entry) (w : Within K n) where
   there : token (set K n x) n ≡ x
-  there = get_or-set_same K n x blank w.1
+  there = same_entry K n x blank w.1
 
   pub token_stored
       : (t : Token) (at : ℕ) → kind_of t ≡ kind_code x.kind → place_of t at ≡ x.start → size_of t ≡ x.size
@@ -70,7 +70,7 @@ module _ (K : TokenRow) (n : ℕ) (x : Entry) (w : Within K n) where
     kinds = ap (λ y. kind_code y.kind) there ∙ sym p;
     starts = ap (λ y. y.start) there ∙ sym q;
     sizes = ap (λ y. y.size) there ∙ sym r;
-    kept = λ j h. get_or-set_other K n j x blank (λ e. omega arith);
+    kept = λ j h. other_entry K n j x blank (λ e. omega arith);
   }
 
 -- The place and the size that the code stores.

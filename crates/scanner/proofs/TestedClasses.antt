@@ -75,14 +75,22 @@ pub blank_test : (b : ℕ) (r : Class) {t : Bool} → t ≡ sameb the_type r Bla
 unfolding is_blank_byte
 blank_test b r e f = e ∙ same_code r Blank ∙ ap (λ n. eqb n 0) f
 
--- One byte has the class of the quote.
+-- One byte has the class of the quote, by a class that was looked up.
+module _ (b : ℕ) {c : ℕ} (e : c ≡ class b) where
+  pub a_quote : c ≡ quote → b ≡ 39
+  a_quote i = (solo b).a_quote (sym e ∙ i)
+
+  pub no_quote : (c ≡ quote → ⊥) → b ≡ 39 → ⊥
+  unfolding class member
+  no_quote f i = f (e ∙ ap class i)
+
 quote_class : (b : ℕ) → eqb (class b) quote ≡ is_quote b
-unfolding is_quote class member
+unfolding is_quote
 quote_class b = go (eqb (class b) quote) refl
   where
     go : (x : Bool) → eqb (class b) quote ≡ x → eqb (class b) quote ≡ is_quote b
-    go true i = i ∙ sym (eq-eqb b 39 ((solo b).a_quote (eqb-true (class b) quote i)))
-    go false i = i ∙ sym (ne_eqb b 39 (λ e. eqb-false (class b) quote i (ap class e)))
+    go true i = i ∙ sym (eq-eqb b 39 (a_quote b refl (eqb-true (class b) quote i)))
+    go false i = i ∙ sym (ne_eqb b 39 (no_quote b refl (eqb-false (class b) quote i)))
 
 -- A test for the class of the quote.
 pub quote_test : (b : ℕ) (r : Class) {t : Bool} → t ≡ sameb the_type r Quote → class_code r ≡ class b → t ≡ is_quote b

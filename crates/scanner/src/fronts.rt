@@ -87,12 +87,12 @@ pub fn front_at(text: &[u8], at: usize) -> Result<Front, Refusal>
         }
         Class::Digit => limited(
             Kind::Number,
-            runs::run_end(text, at + 1, Class::Digit) - at,
+            runs::run_end(text, at + 1, Class::Digit as u8) - at,
             MAX_DIGITS,
         ),
         Class::Sign => limited(
             Kind::Symbol,
-            runs::run_end(text, at + 1, Class::Sign) - at,
+            runs::run_end(text, at + 1, Class::Sign as u8) - at,
             MAX_NAME,
         ),
         Class::Quote => quoted(text, at),

@@ -2,7 +2,6 @@
 ghost use Rattle.std.specs.Prelude.{◌≡◌, ◌+◌, drop, get_or};
 ghost use Rattle.grammar.specs.Token.{in_word, is_quote};
 ghost use Rattle.grammar.specs.Scan.{run};
-ghost use Rattle.byte_classes.specs.Classes.{class_code};
 ghost use Rattle.scanner.specs.Classes.{in_class};
 ghost use Rattle.scanner.specs.Scanning.{first_size};
 ghost use Rattle.scanner.specs.Places.{token_end, blanks_end};
@@ -10,10 +9,11 @@ ghost use Rattle.scanner.specs.Places.{token_end, blanks_end};
 use crate::classes;
 use byte_classes::classes::Class;
 
-fn is_in(class: Class, b: u8) -> bool
-    ensures { result ≡ in_class (class_code class) b }
+// Whether a byte is of the class with a number, any number.
+fn is_in(class: u8, b: u8) -> bool
+    ensures { result ≡ in_class class b }
 {
-    classes::class(b) == class
+    classes::class(b) as u8 == class
 }
 
 fn is_in_word(b: u8) -> bool
@@ -25,10 +25,10 @@ fn is_in_word(b: u8) -> bool
     )
 }
 
-// Where the bytes of a class from `at` on end. (Tried: a chain with `take_while` and `count` costs five to seven instructions more for each
+// Where the bytes of a class, by its number, from `at` on end. (Tried: a chain with `take_while` and `count` costs five to seven instructions more for each
 // token, here and in `word_end`.)
-pub fn run_end(text: &[u8], at: usize, class: Class) -> usize
-    ensures { result ≡ at + run (in_class (class_code class)) (drop at text.now) }
+pub fn run_end(text: &[u8], at: usize, class: u8) -> usize
+    ensures { result ≡ at + run (in_class class) (drop at text.now) }
 {
     for i in at..text.len() {
         if !is_in(class, text[i]) {
@@ -55,7 +55,7 @@ pub fn word_end(text: &[u8], at: usize) -> usize
 pub fn blanks_end(text: &[u8], at: usize) -> usize
     ensures { result ≡ blanks_end text.now at }
 {
-    run_end(text, at, Class::Blank)
+    run_end(text, at, Class::Blank as u8)
 }
 
 // Where the token that begins at `at` ends, if it is no quoted name. Behind the text `at` itself.
@@ -67,8 +67,8 @@ pub fn token_end(text: &[u8], at: usize) -> usize
     }
     match classes::class(text[at]) {
         Class::Letter => word_end(text, at + 1),
-        Class::Digit => run_end(text, at + 1, Class::Digit),
-        Class::Sign => run_end(text, at + 1, Class::Sign),
+        Class::Digit => run_end(text, at + 1, Class::Digit as u8),
+        Class::Sign => run_end(text, at + 1, Class::Sign as u8),
         _ => at + 1,
     }
 }
