@@ -62,6 +62,20 @@ pub fn hash(name: &[u8]) -> usize
     h & (HASHES - 1)
 }
 
+// Whether the name at an offset of the text, or of the starting operator with a number, is `name`, which has the number `number` among these.
+pub fn is_named(text: &[u8], start: usize, size: usize, name: &[u8], number: Option<usize>) -> bool
+    requires { Stands text.now start size × (number ≡ found_number name.now) }
+    ensures { result ≡ same name.now (name_in text.now start size) }
+{
+    if name.len() != size {
+        return false;
+    }
+    if start < NAMES {
+        return name == &text[start..start + size];
+    }
+    number == Some(start - NAMES)
+}
+
 impl Entry {
     pub const NONE: Entry = Entry {
         start: 0,
@@ -75,15 +89,7 @@ impl Entry {
         requires { Stands text.now self.start self.size × (number ≡ found_number name.now) }
         ensures { result ≡ same name.now (name_in text.now self.start self.size) }
     {
-        let start = self.start as usize;
-        let size = self.size as usize;
-        if name.len() != size {
-            return false;
-        }
-        if start < NAMES {
-            return name == &text[start..start + size];
-        }
-        number == Some(start - NAMES)
+        is_named(text, self.start as usize, self.size as usize, name, number)
     }
 }
 
@@ -247,5 +253,5 @@ fn are_lawful(operators: &[Entry]) -> bool
 fn are_apart(operators: &[Entry]) -> bool
     ensures { result ≡ list_all (λ e. is_apart (roles_by e.roles)) operators.now }
 {
-    operators.iter().all(|e| conditions::is_apart(e.roles))
+    operators.iter().all(|e| conditions::is_apart(e.roles.infix.code, e.roles.postfix.code))
 }

@@ -1,11 +1,11 @@
--- There are not both where there is no infix role, or no postfix role.
+-- The number of a role is 0 where there is none.
 use mathlib.Core.Path.{sym, ◌∙◌}
-use Rattle.operators.proofs.Roles.{is_zero, not_zero, apart_without, apart_beside}
+use borrow.Author.Tests.{eq-eqb}
+use Rattle.operators.proofs.Roles.{apart_without, apart_beside}
 use Rattle.operators.proofs.conditions.is_apart.Goals as goal
 
-pub returns-then-is_none : goal.returns-then-is_none
-returns-then-is_none c = c.if-is_none.true ∙ sym (apart_without _ _ _ (is_zero c.is_none.ensures c.if-is_none.true))
+pub returns-then-infix-eq0 : goal.returns-then-infix-eq0
+returns-then-infix-eq0 c prefix = eq-eqb _ _ c.if-infix-eq0.true ∙ sym (apart_without prefix _ _ c.if-infix-eq0.true)
 
-pub returns-else-is_none : goal.returns-else-is_none
-returns-else-is_none c =
-    c.is_none-else-is_none.ensures ∙ sym (apart_beside _ _ _ (not_zero c.is_none.ensures c.if-is_none.false))
+pub returns-else-infix-eq0 : goal.returns-else-infix-eq0
+returns-else-infix-eq0 c prefix = sym (apart_beside prefix _ _ c.if-infix-eq0.false)

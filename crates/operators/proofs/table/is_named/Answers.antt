@@ -10,23 +10,22 @@ use Rattle.grammar.specs.Bytes.{same}
 use Rattle.byte_strings.proofs.Equality.{pointwise_same}
 use Rattle.starting_operators.proofs.NameSizes.{other_length}
 use Rattle.operators.proofs.TableEntries.{name_in_text, name_at_start, name_length, named_test}
-use Rattle.operators.proofs.table.Entry.is_named.Goals as goal
+use Rattle.operators.proofs.table.is_named.Goals as goal
 
 pub returns-then-name-size : goal.returns-then-name-size
 returns-then-name-size c = sym (other_length _ _ (λ e. c.if-name-size.true (e ∙ name_length _ _ _ c.requires.0)))
 
 pub returns-then-start-lt-NAMES : goal.returns-then-start-lt-NAMES
 returns-then-start-lt-NAMES c =
-    let e = c.args.self in
-    let n : e.start + e.size - e.start ≡ e.size = omega arith in
+    let n : c.args.start + c.args.size - c.args.start ≡ c.args.size = omega arith in
     c.eq.ensures
     ∙ pointwise_same _ _
-    ∙ ap (same _) (ap (λ n. take n (drop e.start c.args.text.now)) n ∙ sym (name_in_text _ _ _ c.if-start-lt-NAMES.true))
+    ∙ ap (same _) (ap (λ n. take n (drop c.args.start c.args.text.now)) n ∙ sym (name_in_text _ _ _ c.if-start-lt-NAMES.true))
 
 pub returns : goal.returns
 returns c =
     let h = c.if-start-lt-NAMES.false in
-    let k = c.args.self.start - longest_text in
+    let k = c.args.start - longest_text in
     c.eq-2.ensures
     ∙ ap (λ n. option_eq nat_eq n (Some k)) c.requires.1
     ∙ named_test _ k (c.requires.0.1 h).0
