@@ -4,10 +4,11 @@ use mathlib.Core.Bool.{Bool, true, false}
 use Prim.Native.Nat.{ℕ, max, ◌≤◌}
 use native.Mathlib.Omega.{arith}
 use lib.ListN.{length, length-set}
-use lib.Seq.{get_or-set_same, get_or-set_other, set_out}
+use lib.Seq.{set_out}
 use Rattle.grammar.proofs.Logic.{below}
 use Rattle.rows.specs.declared.token.Token.{Token}
 use Rattle.rows.specs.Fields.{TokenRow, blank, token, closer, size, Within}
+use Rattle.rows.proofs.Fields.{same_entry, other_entry}
 use Rattle.canonical_text.specs.Brackets.{DiffersInSizes, resized, kept_pair, size_if}
 
 pub sizes_then : (K K' K'' : TokenRow) → DiffersInSizes K K' → DiffersInSizes K' K'' → DiffersInSizes K K''
@@ -19,10 +20,10 @@ own_size t u n e = e ∙ ap {A = ℕ} (λ m. record u { size = m }) (sym (ap (λ
 -- A row with another size for a token.
 module _ (K : TokenRow) (i n : ℕ) where
   resized_other : (j : ℕ) → (i ≡ j → ⊥) → token (resized K i n) j ≡ token K j
-  resized_other j d = get_or-set_other K i j _ blank (λ e. d (sym e))
+  resized_other j d = other_entry K i j _ blank d
 
   resized_here : Within K i → token (resized K i n) i ≡ record (token K i) { size = n }
-  resized_here w = get_or-set_same K i _ blank w.1
+  resized_here w = same_entry K i _ blank w.1
 
   -- Another token, and the same one in a row that has it or not.
   resized_cases : (j : ℕ) (P : Type 0) → (token (resized K i n) j ≡ token K j → P) → (token (resized K i n) j ≡ record (token K j) { size = n } → P) → P
@@ -30,7 +31,7 @@ module _ (K : TokenRow) (i n : ℕ) where
       below i j (λ h. f (resized_other j (λ e. omega arith)))
       (λ h. below j i (λ k. f (resized_other j (λ e. omega arith)))
       (λ k. let e : j ≡ i = omega arith in
-      below i (length K) (λ m. g (rw e (get_or-set_same K i _ blank m)))
+      below i (length K) (λ m. g (rw e (same_entry K i _ blank m)))
       (λ m. f (ap (λ L. token L j) (set_out K i (record (token K i) { size = n }) m)))))
 
   -- No token has changed but for its size.

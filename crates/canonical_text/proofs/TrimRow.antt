@@ -1,10 +1,9 @@
 -- The row between turns of the loop that trims: tokens passed have what they leave, the others are as they were.
-use Rattle.rows.proofs.Fields.{within}
+use Rattle.rows.proofs.Fields.{same_entry, other_entry, within}
 use mathlib.Core.Path.{subst, ◌≡◌, sym, ap, ◌∙◌}
 use Prim.Native.Nat.{ℕ, suc, ◌+◌, ◌-◌, ◌*◌, ◌≤◌, ◌<◌}
 use native.Mathlib.Omega.{arith}
 use lib.ListN.{length, drop, set, length-set, length-take, length-drop}
-use lib.Seq.{get_or-set_same, get_or-set_other}
 use Rattle.grammar.specs.Canonical.{spaced_pieces}
 use Rattle.grammar.specs.Bytes.{Bytes}
 use Rattle.grammar.proofs.Logic.{below}
@@ -39,10 +38,10 @@ module _ {text : Bytes} {R : NoteRow} {K : TokenRow} {n : ℕ} (rows : Holds K n
         K'' = set K' at u
 
         here : token K'' at ≡ u
-        here = get_or-set_same K' at u blank in_row.1
+        here = same_entry K' at u blank in_row.1
 
         elsewhere : (j : ℕ) → (j ≡ at → ⊥) → token K'' j ≡ token K' j
-        elsewhere j d = get_or-set_other K' at j u blank d
+        elsewhere j d = other_entry K' at j u blank (λ e. d (sym e))
 
         left_here : written_of text K'' at ≡ part_of text R K at
         left_here = ap (bytes_of text) here ∙ t.part ∙ ap (token_part text (note R at).roles) (v.later at (omega arith))
