@@ -48,21 +48,31 @@ pub fn operator(number: usize) -> StartingOperator
     }
 }
 
-// The number of the operator that has the name. It is asked of every word and sign, so it is compiled into its callers.
+// The number of the operator that has the name. It is asked of every word and sign, so it is compiled into its callers, and the length of a
+// name is told first, so that a name is compared only with those of its length.
 #[inline(always)]
 #[tactic(auto, using(byte_strings::proofs::Equality::same_reads, std::proofs::lemmas::Bool::Decides::nat_tests, crate::proofs::NameSearch::found_search), unfolding(crate::proofs::NameSearch::number_at, grammar::specs::Declaration::start_table, grammar::specs::Declaration::start_declarations, grammar::specs::Declaration::declare_all, grammar::specs::Declaration::declare, grammar::specs::Operator::declare_role))]
 pub fn number(name: &[u8]) -> Option<usize>
     ensures { result ≡ found_number name.now }
 {
-    match name {
-        b"or" => Some(0),
-        b"and" => Some(1),
-        b"not" => Some(2),
-        b"=" => Some(3),
-        b"<" => Some(4),
-        b"+" => Some(5),
-        b"-" => Some(6),
-        b"*" => Some(7),
+    match name.len() {
+        1 => match name {
+            b"=" => Some(3),
+            b"<" => Some(4),
+            b"+" => Some(5),
+            b"-" => Some(6),
+            b"*" => Some(7),
+            _ => None,
+        },
+        2 => match name {
+            b"or" => Some(0),
+            _ => None,
+        },
+        3 => match name {
+            b"and" => Some(1),
+            b"not" => Some(2),
+            _ => None,
+        },
         _ => None,
     }
 }
