@@ -1,5 +1,6 @@
 -- What the scan answers is checks 2 to 5; a text without a token is blank, and one without tokens of structure needs no pairing.
 use Rattle.checks.proofs.Stages.{positive, not_scanned, passed_on, tokenized, blank, flat_matched}
+use borrow.Author.Rules.{rules}
 use Rattle.checks.proofs.check.Goals as goal
 
 pub returns-in_err-scanned : goal.returns-in_err-scanned
@@ -18,5 +19,5 @@ check_tokens-requires c =
 pub check_blocks-requires : goal.check_blocks-requires
 check_blocks-requires c =
     let t = tokenized c.requires _ _ c.in_ok-scanned.ensures.scanned c.in_ok-scanned.ensures.long (positive c.if-count-eq0.false) in
-    let (m, u) = flat_matched t.0 _ (t.1 c.if-scanned.false) in
+    let (m, u) = flat_matched t.0 _ (t.1 (search rules)) in
     (m, λ z. u)
