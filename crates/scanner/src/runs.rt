@@ -25,8 +25,8 @@ fn is_in_word(b: u8) -> bool
     )
 }
 
-// Where the bytes of a class, by its number, from `at` on end. (Tried: a chain with `take_while` and `count` costs five to seven instructions more for each
-// token, here and in `word_end`.)
+// Where the bytes of a class, by its number, from `at` on end. (Tried: a chain with `take_while` and `count` costs five to seven instructions
+// more for each token, here and in `word_end`.)
 pub fn run_end(text: &[u8], at: usize, class: u8) -> usize
     ensures { result ≡ at + run (in_class class) (drop at text.now) }
 {
