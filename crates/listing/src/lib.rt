@@ -11,9 +11,11 @@ ghost use Rattle.listing.specs.Outcome.{outcome_of};
 
 mod error;
 mod node;
+pub mod whole;
 
 use crate::error::NumberedError;
 use crate::node::Node;
+use crate::whole::{Whole, write_behind};
 use nodes::node::WORDS;
 use reader::Answer;
 use std::io;
@@ -45,11 +47,8 @@ pub fn print_answer<W: Write>(out: &mut W, word: &[u8], a: Answer) -> io::Result
     ensures { OnOk result (Appends (W.contents out.old) (W.contents out.new) (answer_text word.now a)) }
 {
     match outcome(a) {
-        Ok(count) => {
-            out.write_all(word)?;
-            write!(out, " {count}")
-        }
-        Err(error) => write!(out, "{error}"),
+        Ok(count) => write_behind(out, word, format_args!(" {count}")),
+        Err(error) => write!(Whole(out), "{error}"),
     }
 }
 
@@ -57,8 +56,7 @@ pub fn print_answer<W: Write>(out: &mut W, word: &[u8], a: Answer) -> io::Result
 fn print_line<W: Write>(out: &mut W, line: &[u8]) -> io::Result<()>
     ensures { OnOk result (Appends (W.contents out.old) (W.contents out.new) (line.now ++ newline)) }
 {
-    out.write_all(line)?;
-    out.write_all(b"\n")
+    write_behind(out, line, "\n")
 }
 
 // Writes the answer of a service that counts nothing, and a line end: `word`, or the error.
@@ -67,7 +65,7 @@ pub fn print_outcome<W: Write>(out: &mut W, word: &[u8], a: Answer) -> io::Resul
 {
     match outcome(a) {
         Ok(_) => print_line(out, word),
-        Err(error) => writeln!(out, "{error}"),
+        Err(error) => writeln!(Whole(out), "{error}"),
     }
 }
 
@@ -78,7 +76,7 @@ fn print_nodes<W: Write>(out: &mut W, nodes: &[u32; TABLE], count: usize) -> io:
 {
     for (i, words) in nodes.chunks_exact(WORDS).take(count).enumerate() {
         let node = Node::from_words(words);
-        writeln!(out, "{i} {node}")?;
+        writeln!(Whole(out), "{i} {node}")?;
     }
     Ok(())
 }
@@ -90,10 +88,11 @@ fn print_canonical<W: Write>(out: &mut W, text: &[u8]) -> io::Result<()>
     let mut buffer = [0u8; LONGEST];
     match outcome(reader::canonicalize(text, &mut buffer)) {
         Ok(count) => {
-            writeln!(out, "tidy {count}")?;
-            print_line(out, &buffer[..count])
+            writeln!(Whole(out), "tidy {count}")?;
+            out.write_all(&buffer[..count])?;
+            out.write_all(b"\n")
         }
-        Err(error) => writeln!(out, "{error}"),
+        Err(error) => writeln!(Whole(out), "{error}"),
     }
 }
 
@@ -104,10 +103,10 @@ pub fn print_listing<W: Write>(out: &mut W, text: &[u8]) -> io::Result<()>
     let mut nodes = [0u32; TABLE];
     match outcome(reader::read(text, &mut nodes)) {
         Ok(count) => {
-            writeln!(out, "read {count}")?;
+            writeln!(Whole(out), "read {count}")?;
             print_nodes(out, &nodes, count)?;
             print_canonical(out, text)
         }
-        Err(error) => writeln!(out, "{error}"),
+        Err(error) => writeln!(Whole(out), "{error}"),
     }
 }

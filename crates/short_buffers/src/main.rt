@@ -5,6 +5,7 @@ ghost use Rattle.std.specs.Prelude.{◌≡◌, ℕ, ◌+◌, ◌≤◌, ◌<◌,
 ghost use Rattle.grammar.specs.Nodes.{words_per_node};
 ghost use Rattle.short_buffers.specs.Room.{room};
 
+use listing::whole::Whole;
 use nodes::node;
 use reader::Answer;
 use std::io;
@@ -90,13 +91,13 @@ fn report<W: Write>(
 {
     out.write_all(text)?;
     let unit = service.unit();
-    write!(out, ", {len} {unit}: ")?;
+    write!(Whole(out), ", {len} {unit}: ")?;
     listing::print_answer(out, service.word().as_bytes(), a)?;
     let changed = first_changed(words, kept);
     if changed == words.len() {
-        return writeln!(out, ", rest unchanged");
+        return writeln!(Whole(out), ", rest unchanged");
     }
-    writeln!(out, ", changed at {changed}")
+    writeln!(Whole(out), ", changed at {changed}")
 }
 
 // Writes into a buffer the characters of the name at the first node of a text.

@@ -27,16 +27,18 @@ slice_bounds-buffer-end g c =
     let a = c.canonicalize in
     within c.args.text.now a.new.buffer a.result c.in-Ok.count a.ensures (search rules) a.auto.buffer
 
-pub slice_bounds-print_line-end : goal.slice_bounds-print_line-end
-slice_bounds-print_line-end g c =
+pub slice_bounds-write_all-end : goal.slice_bounds-write_all-end
+slice_bounds-write_all-end g c =
     let a = c.canonicalize in
     sym (length-take-le c.in-Ok.count a.new.buffer (within c.args.text.now a.new.buffer a.result c.in-Ok.count a.ensures (search rules) a.auto.buffer))
 
-pub returns-in_ok-writeln-in-Ok : goal.returns-in_ok-writeln-in-Ok
-returns-in_ok-writeln-in-Ok g c =
+pub returns-in_ok-write_all-in-Ok : goal.returns-in_ok-write_all-in-Ok
+returns-in_ok-write_all-in-Ok g c =
     let a = c.canonicalize in
-    ok_same c.print_line.result _ _ (canonical_printed c.args.text.now a.new.buffer a.result a.ensures c.in-Ok.count (search rules))
-    (ok_then c.print_line.result _ _ _ _ _ c.in_ok-writeln-in-Ok.ensures.bytes c.print_line.ensures)
+    let r = c.write_all-in-Ok.result in
+    ok_same r _ _ (canonical_printed c.args.text.now a.new.buffer a.result a.ensures c.in-Ok.count (search rules))
+    (ok_then r _ _ _ _ _ c.in_ok-writeln-in-Ok.ensures.bytes
+    (ok_then r _ _ _ _ _ c.in_ok-write_all-in-Ok.ensures.bytes c.write_all-in-Ok.ensures.bytes))
 
 pub returns-in-Err : goal.returns-in-Err
 returns-in-Err g c =
