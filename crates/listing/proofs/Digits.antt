@@ -1,13 +1,16 @@
 -- The digits that std prints of a number, and those that `io` makes of it, are its decimal in the definition of the listing.
 use mathlib.Core.Path.{◌≡◌, refl, sym, ap, ◌∙◌}
+use mathlib.Core.Bool.{Bool, true, false}
 use mathlib.Core.List.{[], ◌∷◌, ◌++◌}
 use Prim.Native.Nat.{ℕ, zero, suc, ◌+◌, ◌*◌, ◌-◌, ◌/◌, ◌%◌, ◌^◌, ◌≤◌, ◌<◌}
 use native.Mathlib.Nat.{pow-suc, one-le-pow}
 use native.Mathlib.Omega.{arith}
-use borrow.Author.Tests.{lt-ltb, le-ltb}
+use borrow.Author.Tests.{ltb-true, ltb-false, lt-ltb, le-ltb}
+use lib.Dec.{ltb}
+use lib.ListN.{length, length-append}
 use Rattle.io.specs.Digits.{last_digits, hex_digit_ascii, IsDigitCount}
 use Rattle.grammar.specs.Bytes.{Bytes}
-use Rattle.grammar.specs.Listing.{decimal_in, decimal}
+use Rattle.grammar.specs.Listing.{decimal_in, decimal, field}
 use Rattle.listing.specs.Lines.{spelled}
 use Rattle.std.specs.Fmt as P
 use Rattle.std.proofs.lemmas.Fmt.{AppendsLastDigit, decimal_from_appends, length-decimal-le}
@@ -69,3 +72,20 @@ digits_spelled (suc k) n h f =
 -- The definition of the listing has fuel for ten digits.
 pub spelled-decimal : (n : ℕ) → n < 10 ^ 10 → spelled n ≡ decimal n
 spelled-decimal n h = sym (printed_spelled n (omega arith)) ∙ printed_decimal n h
+
+length-decimal_in : (f n : ℕ) → length (decimal_in f n) ≤ f
+unfolding decimal_in
+length-decimal_in zero n = omega arith
+length-decimal_in (suc f) n = go (length-decimal_in f (n / 10)) (ltb n 10) refl
+  where
+    go : length (decimal_in f (n / 10)) ≤ f → (b : Bool) → ltb n 10 ≡ b → length (decimal_in (suc f) n) ≤ suc f
+    go ih true e = rw (last_digit f n (ltb-true n 10 e)) (omega arith)
+    go ih false e = rw (more_digits f n (ltb-false n 10 e), length-append) (omega arith)
+
+pub length-spelled : (n : ℕ) → length (spelled n) ≤ 20
+unfolding spelled
+length-spelled n = length-decimal_in 20 n
+
+pub spelled-field : (n : ℕ) → n < 10 ^ 10 → 32 ∷ spelled n ≡ field n
+unfolding field
+spelled-field n h = ap (λ (d : Bytes). 32 ∷ d) (spelled-decimal n h)

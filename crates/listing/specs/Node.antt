@@ -1,11 +1,11 @@
 -- The node that six words of a table give, and how it prints.
-use Rattle.std.specs.Prelude.{◌≡◌, [], ◌++◌, codes, ℕ, List, Option, Some, None, get_or}
-use Rattle.std.specs.Fmt.{decimal}
+use Rattle.std.specs.Prelude.{◌≡◌, [], ◌∷◌, ◌++◌, ℕ, List, Option, Some, None, get_or}
 use Rattle.grammar.specs.Bytes.{Bytes}
-use Rattle.grammar.specs.Listing.{kind_names}
+use Rattle.grammar.specs.Listing.{kind_names, newline, field}
 use Rattle.nodes.specs.declared.kind.NodeKind.{NodeKind}
 use Rattle.nodes.specs.Kind.{kind_word}
 use Rattle.listing.specs.declared.node.Node.{Node}
+use Rattle.listing.specs.Lines.{spelled}
 
 -- The word of a kind; none has no word.
 abbrev pub word_of : Option NodeKind → Bytes
@@ -21,9 +21,7 @@ pub record IsNodeOf (words : List ℕ) (n : Node) : Type 0 where
   pub length : n.length ≡ get_or words 4 0
   pub precedence : n.precedence ≡ get_or words 5 0
 
--- The word of the kind and the five numbers, each behind a space, with the digits that std writes of a number.
-abbrev pub node_output : Node → Bytes
-node_output n =
-    word_of n.kind
-    ++ (codes " " ++ (decimal n.first ++ (codes " " ++ (decimal n.second ++ (codes " " ++ (decimal n.offset ++ (codes " " ++ (decimal n.length
-    ++ (codes " " ++ decimal n.precedence)))))))))
+-- The line of node number `i`, with its line end: its number, the word of the kind and the five numbers, each of these behind a space.
+abbrev pub node_text : ℕ → Node → Bytes
+node_text i n =
+    spelled i ++ 32 ∷ word_of n.kind ++ field n.first ++ field n.second ++ field n.offset ++ field n.length ++ field n.precedence ++ newline

@@ -10,10 +10,12 @@ ghost use Rattle.listing.specs.Lines.{answer_text, outcome_text, most_nodes};
 ghost use Rattle.listing.specs.Outcome.{outcome_of};
 
 mod error;
+mod line;
 mod node;
 pub mod whole;
 
 use crate::error::NumberedError;
+use crate::line::Line;
 use crate::node::Node;
 use crate::whole::{Whole, write_behind};
 use nodes::node::WORDS;
@@ -76,7 +78,9 @@ fn print_nodes<W: Write>(out: &mut W, nodes: &[u32; TABLE], count: usize) -> io:
 {
     for (i, words) in nodes.chunks_exact(WORDS).take(count).enumerate() {
         let node = Node::from_words(words);
-        writeln!(Whole(out), "{i} {node}")?;
+        let mut line = Line::empty();
+        line.add_node(i, node);
+        out.write_all(line.as_slice())?;
     }
     Ok(())
 }
@@ -86,7 +90,8 @@ fn print_canonical<W: Write>(out: &mut W, text: &[u8]) -> io::Result<()>
     ensures { OnOk result (Appends (W.contents out.old) (W.contents out.new) (canonical_lines (G.canonicalize text.now (replicate longest_text 0)))) }
 {
     let mut buffer = [0u8; LONGEST];
-    match outcome(reader::canonicalize(text, &mut buffer)) {
+    let a = reader::canonicalize(text, &mut buffer);
+    match outcome(a) {
         Ok(count) => {
             writeln!(Whole(out), "tidy {count}")?;
             out.write_all(&buffer[..count])?;
@@ -101,7 +106,8 @@ pub fn print_listing<W: Write>(out: &mut W, text: &[u8]) -> io::Result<()>
     ensures { OnOk result (Appends (W.contents out.old) (W.contents out.new) (printed text.now)) }
 {
     let mut nodes = [0u32; TABLE];
-    match outcome(reader::read(text, &mut nodes)) {
+    let a = reader::read(text, &mut nodes);
+    match outcome(a) {
         Ok(count) => {
             writeln!(Whole(out), "read {count}")?;
             print_nodes(out, &nodes, count)?;

@@ -1,6 +1,5 @@
-// A node of the table, which prints as the rest of its line, behind its index.
+// A node of the table, by its six words.
 use nodes::kind::NodeKind;
-use std::fmt;
 
 #[derive(Clone, Copy)]
 pub struct Node {
@@ -31,20 +30,5 @@ impl Node {
             length: words[4],
             precedence: words[5],
         }
-    }
-}
-
-impl fmt::Display for Node {
-    ghost use Rattle.std.specs.Prelude.{Some};
-    ghost use Rattle.listing.specs.Node.{node_output};
-
-    ghost output = { λ n. Some (node_output n) };
-
-    fn fmt<W: fmt::Write>(&self, f: &mut fmt::Formatter<W>) -> fmt::Result {
-        if let Some(kind) = self.kind {
-            write!(f, "{kind}")?;
-        }
-        write!(f, " {} {}", self.first, self.second)?;
-        write!(f, " {} {} {}", self.offset, self.length, self.precedence)
     }
 }

@@ -1,77 +1,19 @@
 // Writes a text as a whole. std's `write!` gives a writer each piece of the text by a `write_all` of its own, and standard output does not
 // collect them; here the pieces are collected, and go to the writer by one `write_all` where they have no more than 160 bytes.
-ghost use Rattle.std.specs.Prelude.{◌≡◌, [], ◌++◌, ◌+◌, ◌≤◌, List, ℕ, length, take, OnOk, IsOk, IfSome};
+ghost use Rattle.std.specs.Prelude.{◌≡◌, [], ◌++◌, OnOk, IsOk, IfSome};
 ghost use Rattle.std.specs.Fmt.{with_newline};
 ghost use Rattle.std.specs.Io.KnownBytes.{Appends, append_known};
 
+use crate::line::{Line, ROOM};
 use std::fmt::Display;
 use std::io::Write;
-use std::marker::Model;
 use std::{fmt, io};
-
-// How many bytes can wait: more than any line of a listing has.
-const ROOM: usize = 160;
-
-// Bytes that wait to be written: the first `count` of the array.
-#[derive(Drop)]
-struct Waiting {
-    bytes: [u8; ROOM],
-    count: usize,
-}
-
-impl Model for Waiting {
-    ghost Value = { List ℕ };
-
-    ghost view = { λ w. take w.count w.bytes };
-
-    ghost invariant = { λ w. w.count ≤ 160 };
-}
-
-impl Waiting {
-    fn none() -> Waiting
-        ensures { result ≡ [] }
-    {
-        Waiting {
-            bytes: [0; ROOM],
-            count: 0,
-        }
-    }
-
-    fn as_slice(&self) -> &[u8]
-        ensures { result.now ≡ self.now }
-    {
-        &self.bytes[..self.count]
-    }
-
-    // How many bytes more have room.
-    fn room(&self) -> usize
-        ensures { result + length self.now ≡ ROOM }
-    {
-        ROOM - self.count
-    }
-
-    // Puts bytes behind those that wait.
-    fn add(&mut self, piece: &[u8])
-        requires { length self.old + length piece.now ≤ ROOM }
-        ensures { self.new ≡ self.old ++ piece.now }
-    {
-        let end = self.count + piece.len();
-        self.bytes[self.count..end].copy_from_slice(piece);
-        self.count = end;
-    }
-
-    fn clear(&mut self)
-        ensures { self.new ≡ [] }
-    {
-        self.count = 0;
-    }
-}
 
 // A writer of pieces, the bytes that wait for it, and the error of the write that failed, which `fmt::Error` cannot carry.
 #[derive(Drop)]
 struct Pieces<'a, W> {
     inner: &'a mut W,
-    waiting: Waiting,
+    waiting: Line,
     error: Option<io::Error>,
 }
 
@@ -131,7 +73,7 @@ pub(crate) fn write_behind<W: Write, D: Display + Drop>(
 {
     let mut pieces = Pieces {
         inner: out,
-        waiting: Waiting::none(),
+        waiting: Line::empty(),
         error: None,
     };
     pieces.put(front)?;

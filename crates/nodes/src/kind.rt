@@ -1,8 +1,6 @@
 // The kinds of nodes, their numbers in the node table and their words in the listing.
 ghost use Rattle.nodes.specs.Kind.{kind_word, Decodes};
-ghost use Rattle.std.specs.Prelude.{Some};
-
-use std::fmt;
+ghost use Rattle.std.specs.Prelude.{◌≡◌};
 
 #[derive(Clone, Copy, PartialEq, Eq)]
 pub enum NodeKind {
@@ -38,12 +36,13 @@ impl TryFrom<u32> for NodeKind {
     }
 }
 
-impl fmt::Display for NodeKind {
-    ghost output = { λ kind. Some (kind_word kind) };
-
+impl NodeKind {
+    // The word of a kind in the listing.
     #[tactic(auto, unfolding(grammar::specs::Listing::kind_names))]
-    fn fmt<W: fmt::Write>(&self, f: &mut fmt::Formatter<W>) -> fmt::Result {
-        f.write_str(match self {
+    pub fn word(self) -> &'static str
+        ensures { result.now ≡ kind_word self }
+    {
+        match self {
             NodeKind::Name => "name",
             NodeKind::Number => "number",
             NodeKind::Prefix => "prefix",
@@ -51,6 +50,6 @@ impl fmt::Display for NodeKind {
             NodeKind::Postfix => "postfix",
             NodeKind::Bracket => "bracket",
             NodeKind::Block => "block",
-        })
+        }
     }
 }

@@ -42,6 +42,7 @@ fn first_changed(words: &[u32], from: usize) -> usize
     requires { length words.now ≤ 56 }
     ensures by_index { (k : ℕ) → k < result → from ≤ k → get_or words.now k 0 ≡ 200 + k }
     ensures changed { result < length words.now → get_or words.now result 0 ≡ 200 + result → ⊥ }
+    ensures from_on { result < length words.now → from ≤ result }
 {
     for (i, word) in words.iter().enumerate() {
         if from <= i && *word != 200 + i as u32 {

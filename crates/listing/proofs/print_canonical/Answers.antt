@@ -24,17 +24,17 @@ within text buffer a n e o size =
 
 pub slice_bounds-buffer-end : goal.slice_bounds-buffer-end
 slice_bounds-buffer-end g c =
-    let a = c.canonicalize in
+    let a = c.canonicalize-a in
     within c.args.text.now a.new.buffer a.result c.in-Ok.count a.ensures (search rules) a.auto.buffer
 
 pub slice_bounds-write_all-end : goal.slice_bounds-write_all-end
 slice_bounds-write_all-end g c =
-    let a = c.canonicalize in
+    let a = c.canonicalize-a in
     sym (length-take-le c.in-Ok.count a.new.buffer (within c.args.text.now a.new.buffer a.result c.in-Ok.count a.ensures (search rules) a.auto.buffer))
 
 pub returns-in_ok-write_all-in-Ok : goal.returns-in_ok-write_all-in-Ok
 returns-in_ok-write_all-in-Ok g c =
-    let a = c.canonicalize in
+    let a = c.canonicalize-a in
     let r = c.write_all-in-Ok.result in
     ok_same r _ _ (canonical_printed c.args.text.now a.new.buffer a.result a.ensures c.in-Ok.count (search rules))
     (ok_then r _ _ _ _ _ c.in_ok-writeln-in-Ok.ensures.bytes
@@ -42,7 +42,7 @@ returns-in_ok-write_all-in-Ok g c =
 
 pub returns-in-Err : goal.returns-in-Err
 returns-in-Err g c =
-    let a = c.canonicalize in
+    let a = c.canonicalize-a in
     ok_same c.writeln-in-Err.result _ _
     (canonical-refusal_printed c.args.text.now a.new.buffer a.result a.ensures c.in-Err.error (search rules))
     c.writeln-in-Err.ensures.bytes

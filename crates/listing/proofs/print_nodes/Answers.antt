@@ -1,7 +1,7 @@
 -- Each turn writes the line of one node more, from the words in front of those that are left.
 use mathlib.Core.Path.{◌≡◌, sym, ap, ap₂, ◌∙◌}
 use mathlib.Core.List.{List, ◌++◌}
-use Prim.Native.Nat.{ℕ, ◌+◌, ◌*◌, ◌-◌, ◌≤◌, ◌<◌}
+use Prim.Native.Nat.{ℕ, ◌+◌, ◌*◌, ◌-◌, ◌^◌, ◌≤◌, ◌<◌}
 use mathlib.Core.Logic.{dite}
 use native.Mathlib.Decide.{dec_le}
 use native.Mathlib.Omega.{arith}
@@ -15,6 +15,7 @@ use Rattle.grammar.specs.Nodes.{words_per_node}
 use Rattle.grammar.specs.Bytes.{Bytes}
 use Rattle.grammar.specs.Listing.{node_lines}
 use Rattle.listing.specs.Lines.{most_nodes}
+use Rattle.listing.specs.Node.{node_text}
 use Rattle.listing.proofs.Appended.{appended_same}
 use Rattle.listing.proofs.NodeLines.{next_line, no_lines}
 use Rattle.listing.proofs.NodeText.{node_line}
@@ -63,6 +64,7 @@ loop-i-preserved g c =
     let k = enumerate_count c.loop-i.i-iterator in
     let e : drop (k * words_per_node) c.args.nodes.now ≡ words ++ rest = sym c.loop-i.invariant.rest ∙ s.0.0.1.0 in
     let size : length words ≡ words_per_node = s.0.0.1.1 ∙ c.loop-i.invariant.size in
+    let small : c.in-Some.i < 10 ^ 10 = search rules in
     record {
       rest = behind k _ c.args.nodes.now words rest s.2 e size;
       size = s.0.0.0 ∙ c.loop-i.invariant.size;
@@ -70,9 +72,9 @@ loop-i-preserved g c =
       lines =
           appended_same _ _
           (next k _ c.in-Some.i c.args.nodes.now words rest _ s.1 s.2 e
-          (node_line c.in-Some.i words rest n c.from_words-node.ensures size (search rules) (search rules) (search rules) (search rules) (search rules)
-          (search rules)))
-          (Appends-trans _ _ _ _ _ c.loop-i.invariant.lines c.in_ok-writeln.ensures.bytes);
+          (c.as_slice.ensures ∙ c.add_node.ensures.added ∙ ap (λ (l : Bytes). l ++ node_text c.in-Some.i n) c.empty-line.ensures
+          ∙ node_line c.in-Some.i words rest n c.from_words-node.ensures size small))
+          (Appends-trans _ _ _ _ _ c.loop-i.invariant.lines c.in_ok-write_all.ensures.bytes);
     }
 
 pub returns : goal.returns

@@ -20,6 +20,6 @@ returns g c =
     let name = same ∙ put.same_writer in
     let taken = Appends-trans _ _ _ _ _ put.bytes appended in
     let bytes : Appends (contents c.args.out.now) (contents c.finish.new.out) (c.args.front.now ++ text) =
-    appended-sent _ _ _ _ _ _ c.none.ensures taken (rw c.as_slice.ensures at sent) in
+    appended-sent _ _ _ _ _ _ c.empty.ensures taken (rw c.as_slice.ensures at sent) in
     search rules))
     c.finish.ensures
