@@ -1,6 +1,8 @@
 // The kinds of nodes, their numbers in the node table and their words in the listing.
 ghost use Rattle.nodes.specs.Kind.{kind_word, Decodes};
-ghost use Rattle.std.specs.Prelude.{◌≡◌};
+ghost use Rattle.std.specs.Prelude.{◌≡◌, Some};
+
+use std::fmt;
 
 #[derive(Clone, Copy, PartialEq, Eq)]
 pub enum NodeKind {
@@ -51,5 +53,13 @@ impl NodeKind {
             NodeKind::Bracket => "bracket",
             NodeKind::Block => "block",
         }
+    }
+}
+
+impl fmt::Display for NodeKind {
+    ghost output = { λ kind. Some (kind_word kind) };
+
+    fn fmt<W: fmt::Write>(&self, f: &mut fmt::Formatter<W>) -> fmt::Result {
+        f.write_str(self.word())
     }
 }
