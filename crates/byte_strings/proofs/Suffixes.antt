@@ -8,6 +8,7 @@ use native.Mathlib.Numerals.{add-one}
 use native.Mathlib.Omega.{arith}
 use lib.ListN.{length, take, drop, get_or, drop_of_length-le, length-drop, length-take}
 use lib.Seq.{drop-cons}
+use borrow.Author.Tests.{eq-eqb, ne_eqb}
 use Rattle.grammar.specs.Bytes.{Bytes, same}
 use Rattle.grammar.specs.Scan.{run}
 use Rattle.grammar.proofs.Logic.{same_eq}
@@ -31,6 +32,20 @@ module _ (p : ℕ → Bool) (s : Bytes) (i : ℕ) where
   -- A run ends within the text.
   pub run-within : i ≤ length s → i + run p (drop i s) ≤ length s
   run-within h = omega (arith, (ran p (drop i s)).size, length-take (run p (drop i s)) (drop i s), length-drop i s)
+
+module _ (a b : Bytes) (i : ℕ) where
+  pub same_step
+      : i < length a → i < length b → get_or a i 0 ≡ get_or b i 0 → same (drop i a) (drop i b) ≡ same (drop (i + 1) a) (drop (i + 1) b)
+  unfolding same
+  same_step h g e = rw (drop_next a i h, drop_next b i g, same, eq-eqb (get_or a i 0) (get_or b i 0) e)
+
+  pub same_stop : i < length a → i < length b → (get_or a i 0 ≡ get_or b i 0 → ⊥) → same (drop i a) (drop i b) ≡ false
+  unfolding same
+  same_stop h g e = rw (drop_next a i h, drop_next b i g, same, ne_eqb (get_or a i 0) (get_or b i 0) e)
+
+  pub same_end : length a ≤ i → length b ≤ i → same (drop i a) (drop i b) ≡ true
+  unfolding same
+  same_end h g = rw (drop_of_length-le a h, drop_of_length-le b g)
 
 pub same_length : (a b : Bytes) → (length a ≡ length b → ⊥) → same a b ≡ false
 same_length a b h = go (same a b) refl

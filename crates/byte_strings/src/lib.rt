@@ -1,10 +1,27 @@
-// Byte strings: cutting, copying, and leading zeros.
+// Byte strings: equality, cutting, copying, and leading zeros.
 #![tactic(auto)]
 
 ghost use Rattle.std.specs.Prelude.{◌≡◌, ◌==◌, ◌+◌, ◌≤◌, ◌<◌, length, take, drop};
 ghost use Rattle.std.specs.List.{prefix_len};
+ghost use Rattle.grammar.specs.Bytes.{same};
 ghost use Rattle.grammar.specs.Canonical.{strip};
 ghost use Rattle.byte_strings.specs.Puts.{Put};
+
+// Whether two byte strings are the same.
+pub fn equal(a: &[u8], b: &[u8]) -> bool
+    ensures { result ≡ same a.now b.now }
+{
+    // `a == b` would say the same, but the library's `==` of slices divides lengths by 8, 4 and 2: see c/divisions.
+    if a.len() != b.len() {
+        return false;
+    }
+    for i in 0..a.len() {
+        if a[i] != b[i] {
+            return false;
+        }
+    }
+    true
+}
 
 // A part of a text, as far as the text goes.
 pub fn cut(text: &[u8], at: usize, n: usize) -> &[u8]

@@ -133,7 +133,7 @@ pub fn declaration_at(
 {
     let places = walk::find_places(text, before);
     let word = word_of(text, tokens, from, to, places.first).ok_or(from)?;
-    if word == b"plain".as_slice() {
+    if byte_strings::equal(word, b"plain") {
         let operator = operator_at(tokens, from + 1, to, places.second)?;
         return Ok(Declaration::Clears { operator });
     }

@@ -71,7 +71,7 @@ pub fn is_named(text: &[u8], start: usize, size: usize, name: &[u8], number: Opt
         return false;
     }
     if start < NAMES {
-        return name == &text[start..start + size];
+        return byte_strings::equal(name, &text[start..start + size]);
     }
     number == Some(start - NAMES)
 }

@@ -9,8 +9,7 @@ use native.Mathlib.Omega.{arith}
 use borrow.Author.Rules.{rules}
 use borrow.Author.Tests.{leb-true}
 use lib.ListN.{length}
-use lib.Dec.{eqb, leb}
-use lib.Pointwise.{pointwise}
+use lib.Dec.{leb}
 use Rattle.std.specs.Prelude.{Option, Some, None, Result, Ok, Err, IsErrAnd, option_copied, ok_or}
 use Rattle.grammar.specs.Bytes.{Bytes, same}
 use Rattle.grammar.specs.Token.{Token, atom, symbol}
@@ -31,7 +30,6 @@ use Rattle.declaration_part.specs.Named.{found}
 use Rattle.declaration_part.specs.Parsing.{Parsable, Parses}
 use Rattle.declaration_part.specs.Parts.{stands}
 use Rattle.declaration_part.specs.Parts as P
-use Rattle.byte_strings.proofs.Equality.{pointwise_same}
 use Rattle.declaration_part.proofs.Parts.{written_none, written_some, level_some, level_here}
 use Rattle.declaration_part.proofs.TokenPlaces.{first_part, second_part_lem, third_part}
 use Rattle.declaration_part.proofs.DeclarationParts.{
@@ -50,7 +48,7 @@ use Rattle.declaration_part.proofs.DeclarationParts.{
 }
 use Rattle.declaration_part.proofs.DeclarationRow.{Gone, none_unfit, read_unfit, read_on, operator_unfit, operator_given}
 use Rattle.declaration_part.proofs.parse.declaration_at.Goals as goal
-use Rattle.declaration_part.proofs.parse.declaration_at.Goals.{In_ok-word, After-eq, In_ok-fixity, In_ok-side, In_ok-associativity, In_ok-level}
+use Rattle.declaration_part.proofs.parse.declaration_at.Goals.{In_ok-word, After-equal, In_ok-fixity, In_ok-side, In_ok-associativity, In_ok-level}
 
 -- An error that is handed on.
 handed :
@@ -147,8 +145,8 @@ first_word_read :
     (c : In_ok-word) → (stands 1 c.args.tokens.now c.args.from c.args.to ≡ true) × (c.in_ok-word.word.now ≡ P.part c.args.text.now c.find_places-places.result.first)
 first_word_read c = written_some _ _ _ _ _ _ _ (sym (ap option_copied c.in_ok-word.ensures.ok_part) ∙ c.word_of.ensures)
 
-plain_test : (c : After-eq) → c.eq.result ≡ same c.in_ok-word.word.now plain_word
-plain_test c = c.eq.ensures ∙ ap (pointwise eqb c.in_ok-word.word.now) c.as_slice.ensures ∙ pointwise_same c.in_ok-word.word.now plain_word
+plain_test : (c : After-equal) → c.equal.result ≡ same c.in_ok-word.word.now plain_word
+plain_test c = c.equal.ensures
 
 fixity_read : (c : In_ok-fixity) → fixity_named c.in_ok-word.word.now ≡ some (fixity_in c.in_ok-fixity.fixity)
 fixity_read c = sym c.fixity_named.ensures ∙ ap (found fixity_in) c.in_ok-fixity.ensures.ok_part
@@ -187,15 +185,15 @@ returns-in_err-word c =
 pub returns-in_err-operator : goal.returns-in_err-operator
 returns-in_err-operator c =
     let r = first_word_read (goal.at.returns-in_err-operator c).In_ok-word in
-    let t = plain_test (goal.at.returns-in_err-operator c).After-eq in
-    let g = plain-on c.requires c.find_places-places.ensures _ r (sym t ∙ c.if-eq.true) in
+    let t = plain_test (goal.at.returns-in_err-operator c).After-equal in
+    let g = plain-on c.requires c.find_places-places.ensures _ r (sym t ∙ c.if-equal.true) in
     handed _ _ _ _ _ c.from_residual-in_err-operator.ensures.1 (operator_unfit _ _ _ _ 1 clears _ _ g refl _ c.in_err-operator.ensures)
 
-pub returns-then-eq : goal.returns-then-eq
-returns-then-eq c =
-    let r = first_word_read (goal.at.returns-then-eq c).In_ok-word in
-    let t = plain_test (goal.at.returns-then-eq c).After-eq in
-    let g = plain-on c.requires c.find_places-places.ensures _ r (sym t ∙ c.if-eq.true) in
+pub returns-then-equal : goal.returns-then-equal
+returns-then-equal c =
+    let r = first_word_read (goal.at.returns-then-equal c).In_ok-word in
+    let t = plain_test (goal.at.returns-then-equal c).After-equal in
+    let g = plain-on c.requires c.find_places-places.ensures _ r (sym t ∙ c.if-equal.true) in
     operator_given _ _ _ _ 1 clears _ _ g _ c.in_ok-operator.ensures _ (λ b m. b)
 
 pub returns-in_err-fixity : goal.returns-in_err-fixity
@@ -203,7 +201,7 @@ returns-in_err-fixity c =
     let p = goal.at.returns-in_err-fixity c in
     let e = c.in_err-fixity.ensures in
     handed_none _ _ _ _ _ _ _ e.value e.ok_part c.from_residual-in_err-fixity.ensures.1
-    (word_unfit c.requires c.find_places-places.ensures _ (first_word_read p.In_ok-word) (sym (plain_test p.After-eq) ∙ c.if-eq.false)
+    (word_unfit c.requires c.find_places-places.ensures _ (first_word_read p.In_ok-word) (sym (plain_test p.After-equal) ∙ c.if-equal.false)
     (sym c.fixity_named.ensures ∙ ap (found fixity_in) e.ok_part))
 
 pub word_of-requires-2 : goal.word_of-requires-2
@@ -215,7 +213,7 @@ returns-in_err-side c =
     let e = c.in_err-side.ensures in
     let n = written_none _ _ _ _ _ _ (sym (ap option_copied e.ok_part) ∙ c.word_of-2.ensures) in
     let g =
-    fixity-on c.requires c.find_places-places.ensures _ (first_word_read p.In_ok-word) (sym (plain_test p.After-eq) ∙ c.if-eq.false) _
+    fixity-on c.requires c.find_places-places.ensures _ (first_word_read p.In_ok-word) (sym (plain_test p.After-equal) ∙ c.if-equal.false) _
     (fixity_read p.In_ok-fixity)
     in
     handed_none _ _ _ _ _ _ _ e.value e.ok_part c.from_residual-in_err-side.ensures.1
@@ -226,7 +224,7 @@ returns-in_err-associativity c =
     let p = goal.at.returns-in_err-associativity c in
     let e = c.in_err-associativity.ensures in
     handed_none _ _ _ _ _ _ _ e.value e.ok_part c.from_residual-in_err-associativity.ensures.1
-    (side_unfit c.requires c.find_places-places.ensures _ (first_word_read p.In_ok-word) (sym (plain_test p.After-eq) ∙ c.if-eq.false) _
+    (side_unfit c.requires c.find_places-places.ensures _ (first_word_read p.In_ok-word) (sym (plain_test p.After-equal) ∙ c.if-equal.false) _
     (fixity_read p.In_ok-fixity) _ (side_read p.In_ok-side) (sym c.associativity_named.ensures ∙ ap (found associativity_in) e.ok_part))
 
 pub precedence_of-requires : goal.precedence_of-requires
@@ -237,7 +235,7 @@ returns-in_err-level c =
     let p = goal.at.returns-in_err-level c in
     let e = c.in_err-level.ensures in
     handed_none _ _ _ _ _ _ _ e.value e.ok_part c.from_residual-in_err-level.ensures.1
-    (level_unfit c.requires c.find_places-places.ensures _ (first_word_read p.In_ok-word) (sym (plain_test p.After-eq) ∙ c.if-eq.false) _
+    (level_unfit c.requires c.find_places-places.ensures _ (first_word_read p.In_ok-word) (sym (plain_test p.After-equal) ∙ c.if-equal.false) _
     (fixity_read p.In_ok-fixity) _ (side_read p.In_ok-side) _ (associativity_read p.In_ok-associativity)
     (sym e.ok_part ∙ c.precedence_of.ensures))
 
@@ -251,7 +249,7 @@ operator_on :
 operator_on c =
     let p = goal.at.In_ok-level c in
     let l = level_read c in
-    level-on c.requires c.find_places-places.ensures _ (first_word_read p.In_ok-word) (sym (plain_test p.After-eq) ∙ c.if-eq.false) _
+    level-on c.requires c.find_places-places.ensures _ (first_word_read p.In_ok-word) (sym (plain_test p.After-equal) ∙ c.if-equal.false) _
     (fixity_read p.In_ok-fixity) _ (side_read p.In_ok-side) _ (associativity_read p.In_ok-associativity) l.0 l.1
 
 pub returns-in_err-operator-2 : goal.returns-in_err-operator-2
