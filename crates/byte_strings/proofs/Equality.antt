@@ -1,4 +1,5 @@
--- A test of a byte string for equality: a `match` with a text, which reads the length and then each byte.
+-- Tests of byte strings for equality: the library's `==` of two slices, and a `match` with a text, which reads the length and then each
+-- byte.
 use mathlib.Core.Path.{◌≡◌, refl, sym, ap, ◌∙◌}
 use mathlib.Core.Bool.{Bool, true, false, ◌&&◌}
 use mathlib.Core.List.{[], ◌∷◌}
@@ -6,7 +7,15 @@ use Prim.Native.Nat.{ℕ, ◌+◌}
 use native.Mathlib.Numerals.{add-one}
 use lib.Dec.{eqb, eqb-suc-suc, eqb-suc-zero, eqb-zero-suc}
 use lib.ListN.{length, get_or}
+use Rattle.std.specs.Cmp.Lexicographic.{pointwise}
 use Rattle.grammar.specs.Bytes.{Bytes, same}
+
+pub pointwise_same : (a b : Bytes) → pointwise eqb a b ≡ same a b
+unfolding same
+pointwise_same [] [] = refl
+pointwise_same [] (y ∷ b) = refl
+pointwise_same (x ∷ a) [] = refl
+pointwise_same (x ∷ a) (y ∷ b) = ap (λ t. eqb x y && t) (pointwise_same a b)
 
 -- The bytes from `i` on are those of a text.
 abbrev pub reads : Bytes → ℕ → Bytes → Bool
