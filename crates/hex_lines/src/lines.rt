@@ -16,16 +16,16 @@ pub fn digit(b: u8) -> Option<u8>
     }
 }
 
-// What is known of a line: whether it has a character, whether one of them was no digit, how many bytes of its text are kept, and
-// the value of a digit that waits for the second one of its byte.
+// What is known of a line: how many bytes of its text are kept, the value of a digit that waits for the second one of its byte, whether it
+// has a character, and whether one of them was no digit. In this order the fields lie in two words, which stay in registers.
 // The two flags are no cases of an enum: behind a character that is no digit bytes are kept as before (`after`, `text_after`), so `kept`
 // and `high` have their meaning beside either value of `bad`, and a line that has begun may have nothing kept and no digit that waits.
 #[derive(Clone, Copy, Default)]
 pub struct Line {
-    pub begun: bool,
-    pub bad: bool,
     pub kept: usize,
     pub high: Option<u8>,
+    pub begun: bool,
+    pub bad: bool,
 }
 
 impl Line {
@@ -38,25 +38,32 @@ impl Line {
 
     // The line with one more character, which is no line end. A whole byte is kept if there is room.
     #[tactic(auto, using(crate::proofs::Characters::full_stays), unfolding(crate::specs::Hexadecimal::after, crate::specs::Hexadecimal::text_after))]
-    pub fn next(mut self, text: &mut [u8], b: u8) -> Line
+    pub fn next(self, text: &mut [u8], b: u8) -> Line
         requires { Sound self text.old }
         ensures value { result ≡ after (length text.old) self b }
         ensures text_after { text.new ≡ text_after text.old self b }
         ensures sound { Sound result text.new }
     {
-        self.begun = true;
+        let line = Line {
+            begun: true,
+            ..self
+        };
         match (digit(b), self.high) {
-            (None, _) => self.bad = true,
-            (Some(low), None) => self.high = Some(low),
-            (Some(low), Some(high)) => {
-                if self.kept < text.len() {
-                    text[self.kept] = high * 16 + low;
-                    self.kept += 1;
+            (None, _) => Line { bad: true, ..line },
+            (Some(low), None) => Line {
+                high: Some(low),
+                ..line
+            },
+            (Some(low), Some(high)) if self.kept < text.len() => {
+                text[self.kept] = high * 16 + low;
+                Line {
+                    kept: self.kept + 1,
+                    high: None,
+                    ..line
                 }
-                self.high = None;
             }
+            (Some(_), Some(_)) => Line { high: None, ..line },
         }
-        self
     }
 
     // Whether a whole line gives a text: digits alone, and two to each byte.

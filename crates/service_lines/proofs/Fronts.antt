@@ -3,11 +3,18 @@ use mathlib.Core.Path.{◌≡◌, refl}
 use mathlib.Core.List.{List, [], ◌∷◌, ◌++◌}
 use Prim.Native.Nat.{ℕ, ◌+◌, ◌<◌}
 use native.Mathlib.Numerals.{add-one}
+use native.Mathlib.Omega.{arith}
 use lib.ListN.{length, take, get_or}
 use lib.Seq.{take-suc}
 use Rattle.calls.specs.declared.Format.{Format}
 use Rattle.calls.specs.declared.Call.{Call}
-use Rattle.calls.specs.Calls.{taken, text_taken, taken_all, text_taken_all}
+use Rattle.calls.specs.declared.Format.TheVariants.{Texts, Calls}
+use Rattle.calls.specs.Calls.{fresh, taken, text_taken, taken_all, text_taken_all, Sound}
+
+-- A line with no character is sound with any text.
+pub fresh_sound : (f : Format) (text : List ℕ) → Sound (fresh f) text
+fresh_sound Texts text = record { room = omega arith; digit = tt }
+fresh_sound Calls text = omega arith
 
 taken_push
     : (f : Format) (text : List ℕ) (call : Call) (s : List ℕ) (b : ℕ)

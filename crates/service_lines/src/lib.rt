@@ -3,10 +3,10 @@
 
 ghost use Rattle.std.specs.Prelude.{◌≡◌, true, false, List, ℕ, ◌-◌, ◌^◌, ◌≤◌, ◌<◌, Some, length, take, IfOk, OnOk, OnErr};
 ghost use Rattle.std.specs.Io.KnownBytes.{Appends};
-ghost use Rattle.calls.specs.Calls.{fresh, taken, text_taken, taken_all, text_taken_all, Sound};
+ghost use Rattle.calls.specs.Calls.{fresh, taken_all, text_taken_all, Sound};
 ghost use Rattle.service_lines.specs.Sound.{Sound-prop};
 ghost use Rattle.service_lines.specs.Printed.{given_by, answered};
-ghost use Rattle.service_lines.specs.Parts.{line_gives, character_gives, part_gives, rest_gives, TakesSome, TakesNone};
+ghost use Rattle.service_lines.specs.Parts.{line_gives, part_gives, rest_gives, TakesSome, TakesNone};
 
 pub use calls::Format;
 use calls::{Call, Request, Service};
@@ -52,37 +52,29 @@ impl LineReader {
         }
     }
 
-    // Takes a character of the input. A line end finishes the line and begins the next one.
-    #[tactic(auto, unfolding(calls::specs::Calls::taken, calls::specs::Calls::text_taken, crate::specs::Printed::at_line_end))]
-    fn take<W: Write>(&mut self, out: &mut W, b: u8) -> io::Result<()>
-        ensures format { self.new.format ≡ self.old.format }
-        ensures value { OnOk result (self.new.call ≡ taken self.old.format self.old.text self.old.call b) }
-        ensures text_after { self.new.text ≡ text_taken self.old.text self.old.call b }
-        ensures prints { OnOk result (Appends (W.contents out.old) (W.contents out.new) (character_gives self.old.text self.old.call b)) }
-    {
-        if b == b'\n' {
-            self.finish(out)?;
-            self.call = Call::new(self.format);
-        } else {
-            self.call = self.call.next(&mut self.text, b);
-        }
-        Ok(())
-    }
-
-    // Takes the characters of a part of the input.
+    // Takes the characters of a part of the input. A line end finishes the line and begins the next one. The line is a local here: in memory
+    // beside the text it would be loaded and stored again for each byte that is written there.
     #[tactic(auto, unfolding(calls::specs::Calls::taken_all, calls::specs::Calls::text_taken_all, crate::specs::Parts::part_gives))]
     fn take_all<W: Write>(&mut self, out: &mut W, part: &[u8]) -> io::Result<()>
         ensures format { self.new.format ≡ self.old.format }
         ensures value { OnOk result (self.new.call ≡ taken_all self.old.format self.old.text self.old.call part.now) }
         ensures text_after { OnOk result (self.new.text ≡ text_taken_all self.old.format self.old.text self.old.call part.now) }
-        ensures failed { OnErr result ((k : ℕ) × (k ≤ length part.now)
+        ensures failed { OnErr result ((k : ℕ) × (0 < k) × (k ≤ length part.now)
             × (self.new.text ≡ text_taken_all self.old.format self.old.text self.old.call (take k part.now))) }
         ensures prints { OnOk result (Appends (W.contents out.old) (W.contents out.new)
             (part_gives self.old.format self.old.text self.old.call part.now)) }
     {
+        let mut call = self.call;
         for &b in part {
-            self.take(out, b)?;
+            if b == b'\n' {
+                self.call = call;
+                self.finish(out)?;
+                call = Call::new(self.format);
+            } else {
+                call = call.next(&mut self.text, b);
+            }
         }
+        self.call = call;
         Ok(())
     }
 
